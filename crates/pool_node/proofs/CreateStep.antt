@@ -3,6 +3,8 @@ use Rattle.std.proofs.Common.{◌≡◌, ◌≢◌, refl, sym, ap, ap₂, subst,
 use Rattle.std.specs.Prelude.{slice_get, slice_set, nat_lt}
 use Rattle.std.specs.Option.{unwrap_or}
 use Rattle.std.proofs.lemmas.List.{length-set, length_push}
+use Rattle.std.proofs.lemmas.Option.{slice_get-get_or}
+use Rattle.run_types.specs.declared.types.Place.{Place}
 use Rattle.run_types.specs.declared.types.Value.TheVariants as V
 use Rattle.run_types.specs.declared.types.NameId.{NameId}
 use Rattle.run_types.specs.declared.types.Label.TheVariants as L
@@ -57,6 +59,12 @@ set_front [] i x y h = absurd (omega arith)
 set_front (z ∷ xs) zero x y h = refl
 set_front {X} (z ∷ xs) (suc i) x y h = ap (λ (zs : List X). z ∷ zs) (set_front xs i x y (omega (arith, h)))
 
+-- the node of the next object of class c, by what is read of the table
+pub goal_read : (l : Placement) (n made c : ℕ) (read : List Place) (d x : Place) → read ≡ l.places → c < length l.places → get_or read c d ≡ x
+    → goal_for l n made (Some x) ≡ goal_for l n made (slice_get l.places c)
+goal_read l n made c read d x same there e =
+    ap (λ (o : Option Place). goal_for l n made o) (sym (slice_get-get_or l.places c d there ∙ ap (λ (z : Place). Some z) (ap (λ (ps : List Place). get_or ps c d) (sym same) ∙ e)))
+
 -- the first class of a name
 pub record IsClass (ks : List ClassCode) (k : NameId) (c : ℕ) : Type 0 where
   pub code : ClassCode
@@ -83,6 +91,17 @@ class_is ks k c h =
     let e : r.0 ≡ c = let a = r.1 in omega (arith, a) in
     subst (λ (j : ℕ). IsClass ks k j) e r.2
 
+one_more : (u : Code) (p m : NodeParts) (y : Placed) → IsAdded u p m y → length m.heap.objects ≡ length p.heap.objects + 1
+one_more u p m y a =
+    let b = slots_length m.heap.objects m.outstanding m.faults m.goals m.mailbox.boxes in
+    let c = ap (λ (n : NodeOf). length n.state.slots) a.is in
+    let d = length_push (slots_of p) (fresh_slot y) in
+    let e = slots_length p.heap.objects p.outstanding p.faults p.goals p.mailbox.boxes in omega (arith, b, c, d, e)
+
+-- the new object has a name
+pub no_fewer : (u : Code) (p m : NodeParts) (y : Placed) → IsAdded u p m y → (n : ℕ) → n ≡ length p.heap.objects → n ≤ length m.heap.objects
+no_fewer u p m y a n is = let e = one_more u p m y a in omega (arith, e, is)
+
 module _ (u : Code) (p m : NodeParts) (of : IsOfUnit u (node_of p)) (y : Placed) (a : IsAdded u p m y) (i : ℕ) (h : i < length p.heap.objects) where
   pub added_moved : IsMoved u p m (add_slot (node_of p).state y)
   added_moved = record {
@@ -94,12 +113,8 @@ module _ (u : Code) (p m : NodeParts) (of : IsOfUnit u (node_of p)) (y : Placed)
   slots_more : slots_of m ≡ slots_of p ++ fresh_slot y ∷ []
   slots_more = ap (λ (n : NodeOf). n.state.slots) a.is
 
-  below_more : i < length m.heap.objects
-  below_more =
-      let b = slots_length m.heap.objects m.outstanding m.faults m.goals m.mailbox.boxes in
-      let c = ap (λ (ss : List (Slot Placed)). length ss) slots_more in
-      let d = length_push (slots_of p) (fresh_slot y) in
-      let e = slots_length p.heap.objects p.outstanding p.faults p.goals p.mailbox.boxes in omega (arith, b, c, d, e, h)
+  pub below_more : i < length m.heap.objects
+  below_more = let e = one_more u p m y a in omega (arith, e, h)
 
   pub slot_kept : slot_at m i ≡ slot_at p i
   slot_kept =

@@ -1,3 +1,4 @@
+pub mod HandKinds
 pub mod NodeLimits
 pub mod StepFromChanges
 pub mod PostStep

@@ -14,7 +14,6 @@ use Rattle.code_semantics.specs.Step.{class_from, code_made, code_placed, placed
 use Rattle.node_heap.specs.declared.types.HeapFull.{HeapFull}
 use Rattle.node_heap.specs.declared.types.HeapFull.TheVariants as HF
 use Rattle.mesh_of_code.specs.Coded as E
-use Rattle.mesh_semantics.specs.Kind as K
 use Rattle.mesh_semantics.specs.Kind.{Kind}
 use Rattle.mesh_semantics.specs.Standing as T
 use Rattle.run_types.specs.PathFacts.{In}
@@ -30,7 +29,13 @@ use Rattle.node_heap.specs.Heaps.{object_at}
 use Rattle.mailbox.specs.declared.Message.{Message}
 use Rattle.mailbox.specs.Mail.{lengths}
 use Rattle.mesh_of_code.specs.Coded.{Placed, coded, class_numbers, kind_of, last_code}
-use Rattle.mesh_semantics.specs.Act.{first_of}
+use Rattle.mesh_semantics.specs.Act.{can_step, first_of}
+use Rattle.mesh_semantics.specs.Delay.{Arrival}
+use Rattle.object_interp.specs.declared.types.Hand.TheVariants as H
+use Rattle.object_interp.specs.declared.types.Need.TheVariants as N
+use Rattle.object_interp.specs.Offers.{IsChoosing, hand_of}
+use Rattle.run_types.specs.declared.types.Value.{Value}
+use Rattle.pool_node.specs.Acts.{chosen_standing}
 use Rattle.node_semantics.specs.Node.{Slot, can_go, arrivals, message_count, name_at, placed, ready_slots}
 use Rattle.node_state.specs.declared.state.NodeParts.{NodeParts}
 use Rattle.node_state.specs.NodeOf.{NodeOf}
@@ -38,6 +43,7 @@ use Rattle.node_state.specs.OfUnit.{IsOfUnit}
 use Rattle.node_state.specs.Views.{NodeInvariant, tail_of, slots_by, slots_of, node_of, slot_at}
 use Rattle.node_state.specs.Bits.{first_bit, first_bit_from}
 use Rattle.node_state.proofs.Laws.{slots_length, slot_view, kind_seen}
+use Rattle.pool_node.proofs.HandKinds.{kind_halted, kind_send}
 use Rattle.pool_node.proofs.NodeLimits.{messages_seen}
 use Rattle.pool_node.proofs.TurnSelection.{bits_first}
 
@@ -104,15 +110,62 @@ most_small (k ∷ ks) h = by (nat_le k.vars (most_vars ks)) (h 0 k refl) (most_s
     by true a c = c
     by false a c = a
 
-pub creates : (u : Code) (p : NodeParts) (i : ℕ) (k name : NameId) (goal : ℕ) → is_some (slot_at p i).request ≡ true → code_kind u (object_at p.heap i) ≡ C.New k → name ≡ k → goal ≡ (slot_at p i).goal
-    → T.Creates name.0 goal ≡ slot_standing (coded u) (name_at p.id i) (slot_at p i)
-creates u p i k name goal out kind same at =
-    ap₂ (λ (n : NameId) (g : ℕ). T.Creates n.0 g) same at ∙ (by (slot_at p i).request out
-    ∙ ap (λ (z : Kind). slot_standing_by (slot_at p i).request (slot_at p i).state.fault (arrivals (slot_at p i).mailbox) (slot_at p i).goal z) (sym (kind_seen u p i (name_at p.id i) ∙ ap kind_of kind)))
-  where
-    by : (r : Option ℕ) → is_some r ≡ true → T.Creates k.0 (slot_at p i).goal ≡ slot_standing_by r (slot_at p i).state.fault (arrivals (slot_at p i).mailbox) (slot_at p i).goal (K.New k.0)
-    by None e = absurd (cc)
-    by (Some n) e = refl
+is_none_of : {X : Type 0} (o : Option X) → is_some o ≡ false → o ≡ None
+is_none_of None h = refl
+is_none_of (Some x) h = absurd (cc)
+
+-- the status of the object of a slot
+module _ (u : Code) (p : NodeParts) (i : ℕ) where
+  abbrev kind : C.Kind
+  kind = code_kind u (object_at p.heap i)
+
+  abbrev box : List Arrival
+  box = arrivals (slot_at p i).mailbox
+
+  seen : (r : Option ℕ) (f : Option Error) (k : C.Kind) → (slot_at p i).request ≡ r → (slot_at p i).state.fault ≡ f → kind ≡ k
+      → slot_standing_by r f box (slot_at p i).goal (kind_of k) ≡ slot_standing (coded u) (name_at p.id i) (slot_at p i)
+  seen r f k er ef ek =
+      sym (ap (λ (z : Kind). slot_standing_by (slot_at p i).request (slot_at p i).state.fault box (slot_at p i).goal z) (kind_seen u p i (name_at p.id i) ∙ ap kind_of ek)
+      ∙ ap₂ (λ (o : Option ℕ) (e : Option Error). slot_standing_by o e box (slot_at p i).goal (kind_of k)) er ef)
+
+  -- it has an outstanding request
+  asking : (s : T.Standing) (k : C.Kind) → is_some (slot_at p i).request ≡ true → kind ≡ k
+      → ((n : ℕ) → s ≡ slot_standing_by (Some n) (slot_at p i).state.fault box (slot_at p i).goal (kind_of k)) → s ≡ slot_standing (coded u) (name_at p.id i) (slot_at p i)
+  asking s k out e h = by (slot_at p i).request refl out
+    where
+      by : (o : Option ℕ) → (slot_at p i).request ≡ o → is_some o ≡ true → s ≡ slot_standing (coded u) (name_at p.id i) (slot_at p i)
+      by None w t = absurd (cc)
+      by (Some n) w t = h n ∙ seen (Some n) (slot_at p i).state.fault k w refl e
+
+  pub creates : (k name : NameId) (goal : ℕ) → is_some (slot_at p i).request ≡ true → kind ≡ C.New k → name ≡ k → goal ≡ (slot_at p i).goal
+      → T.Creates name.0 goal ≡ slot_standing (coded u) (name_at p.id i) (slot_at p i)
+  creates k name goal out e same at = asking (T.Creates name.0 goal) (C.New k) out e (λ n. ap₂ (λ (z : NameId) (g : ℕ). T.Creates z.0 g) same at)
+
+  pub calls : (to : ℕ) (m : NameId) (args : List Value) → is_some (slot_at p i).request ≡ true → H.At (N.Send to m args) ≡ hand_of u kind
+      → T.Calls to m.0 ≡ slot_standing (coded u) (name_at p.id i) (slot_at p i)
+  calls to m args out h = asking (T.Calls to m.0) (C.Send to m args) out (kind_send u kind to m args h) (λ _. refl)
+
+  -- it has none, and has met no error
+  free : (s : T.Standing) (k : C.Kind) → is_some (slot_at p i).request ≡ false → is_some (slot_at p i).state.fault ≡ false → kind ≡ k
+      → s ≡ slot_standing_by None None box (slot_at p i).goal (kind_of k) → s ≡ slot_standing (coded u) (name_at p.id i) (slot_at p i)
+  free s k no_request no_fault e h = h ∙ seen None None k (is_none_of (slot_at p i).request no_request) (is_none_of (slot_at p i).state.fault no_fault) e
+
+  pub finished : is_some (slot_at p i).request ≡ false → is_some (slot_at p i).state.fault ≡ false → H.At N.Halted ≡ hand_of u kind
+      → T.Finished ≡ slot_standing (coded u) (name_at p.id i) (slot_at p i)
+  finished no_request no_fault h = free T.Finished C.Finished no_request no_fault (kind_halted u kind h) refl
+
+  pub chosen : (s : T.Standing) → is_some (slot_at p i).request ≡ false → is_some (slot_at p i).state.fault ≡ false → IsChoosing kind
+      → s ≡ chosen_standing (can_step box (kind_of kind)) → s ≡ slot_standing (coded u) (name_at p.id i) (slot_at p i)
+  chosen s no_request no_fault c e = free s kind no_request no_fault refl (e ∙ by kind c)
+    where
+      tests : (b : Bool) → chosen_standing b ≡ (if b then T.Ready else T.Awaits)
+      tests true = refl
+      tests false = refl
+
+      by : (k : C.Kind) → IsChoosing k → chosen_standing (can_step box (kind_of k)) ≡ slot_standing_by None None box (slot_at p i).goal (kind_of k)
+      by (C.Answer names) c = tests (can_step box (kind_of (C.Answer names)))
+      by (C.Select alts) c = tests (can_step box (kind_of (C.Select alts)))
+      by _ c = absurd c
 
 -- the root
 last_is : (ks : List ClassCode) (d : ClassCode) → 0 < length ks → last_code ks ≡ Some (get_or ks (length ks - 1) d)

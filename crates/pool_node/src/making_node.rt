@@ -1,5 +1,5 @@
 //! The parts of a new node, and its root object.
-ghost use Rattle.std.specs.Prelude.{◌≡◌, ◌<◌, ◌≤◌, [], Some, IfOk, replicate};
+ghost use Rattle.std.specs.Prelude.{◌≡◌, ◌<◌, ◌≤◌, [], None, Some, false, IfOk, replicate};
 ghost use Rattle.code_semantics.specs.NodeWords.{most_vars};
 ghost use Rattle.mesh_of_code.specs.Coded.{Placed, coded};
 ghost use Rattle.node_semantics.specs.Node.{name_at};
@@ -10,9 +10,19 @@ ghost use Rattle.node_state.specs.Changes.{IsAdded};
 use crate::acts::name_of;
 use crate::receipt::class_named;
 use code_semantics::Unit;
-use node_state::NodeParts;
-use run_types::List;
+use node_state::{NodeParts, ReadySet};
+use rendezvous_protocol::Outstanding;
+use run_types::{Error, List};
 use std::alloc::{AllocError, Global};
+
+/// The tables of a node's slots, as in its parts.
+#[derive(Drop)]
+pub(crate) struct SlotTables {
+    pub outstanding: Outstanding,
+    pub faults: List<Option<Error>>,
+    pub goals: List<u32>,
+    pub ready: ReadySet,
+}
 
 /// A list of `count` copies of a value. Returns `Err` if memory runs out.
 pub(crate) fn filled<T: Copy + Drop>(
@@ -29,6 +39,25 @@ pub(crate) fn filled<T: Copy + Drop>(
         }
     }
     Ok(list)
+}
+
+/// The tables of `slots` slots without objects. Returns `Err` if memory runs out.
+pub(crate) fn slot_tables(alloc: Global, slots: u32) -> Result<SlotTables, AllocError>
+    ensures outstanding { IfOk result (λ t. t.outstanding ≡ replicate slots None) }
+    ensures faults { IfOk result (λ t. t.faults ≡ replicate slots None) }
+    ensures goals { IfOk result (λ t. t.goals ≡ replicate slots 0) }
+    ensures ready { IfOk result (λ t. t.ready ≡ replicate slots false) }
+{
+    let outstanding = Outstanding::make(alloc, slots)?;
+    let faults = filled(alloc, slots, None)?;
+    let goals = filled(alloc, slots, 0)?;
+    let ready = ReadySet::make(alloc, slots)?;
+    Ok(SlotTables {
+        outstanding,
+        faults,
+        goals,
+        ready,
+    })
 }
 
 /// The largest number of variables of a class.

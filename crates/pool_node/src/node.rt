@@ -17,7 +17,7 @@ ghost use Rattle.node_state.specs.OfUnit.{IsOfPlacement, IsOfUnit};
 ghost use Rattle.pool_node.specs.ActOf.{act_of, act_seen};
 ghost use Rattle.pool_node.specs.Acts.{IsActOf, told_standing};
 
-use crate::making_node::{filled, most_vars_of, start_in};
+use crate::making_node::{filled, most_vars_of, slot_tables, start_in};
 use crate::receipt::receipt_of;
 use crate::standing::{any_fault, standing_of};
 use crate::turn::{first_ready, turn_of};
@@ -25,8 +25,8 @@ use crate::types::{Act, NodePlan, StepOutput, TurnOutcome};
 use code_semantics::Unit;
 use mailbox::Mailbox;
 use node_heap::{Heap, HeapLimits};
-use node_state::{NodeParts, ReadySet};
-use rendezvous_protocol::{Outstanding, Packet};
+use node_state::NodeParts;
+use rendezvous_protocol::Packet;
 use run_types::{Placement, Standing};
 use std::alloc::{AllocError, Global};
 use std::marker::Model;
@@ -87,17 +87,21 @@ impl Node {
             frames: placement.frames,
             vars,
         };
+        let heap = Heap::make(alloc, limits)?;
+        let mailbox = Mailbox::make(alloc, placement.objects, placement.cells)?;
+        let tables = slot_tables(alloc, placement.objects)?;
+        let made = filled(alloc, unit.classes.items().len() as u32, 0)?;
         let parts = NodeParts {
             id,
             cells: placement.cells,
-            heap: Heap::make(alloc, limits)?,
-            mailbox: Mailbox::make(alloc, placement.objects, placement.cells)?,
-            outstanding: Outstanding::make(alloc, placement.objects)?,
-            faults: filled(alloc, placement.objects, None)?,
-            goals: filled(alloc, placement.objects, 0)?,
-            ready: ReadySet::make(alloc, placement.objects)?,
+            heap,
+            mailbox,
+            outstanding: tables.outstanding,
+            faults: tables.faults,
+            goals: tables.goals,
+            ready: tables.ready,
             last: None,
-            made: filled(alloc, unit.classes.items().len() as u32, 0)?,
+            made,
         };
         Ok(Node { parts })
     }

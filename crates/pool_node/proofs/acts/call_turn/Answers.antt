@@ -1,5 +1,8 @@
 use Rattle.std.proofs.Common.{refl, sym, subst, ap, ◌∙◌, get_or, ℕ, List}
 use Rattle.run_types.specs.declared.types.What.TheVariants as W
+use Rattle.code_semantics.specs.Kinds.{Kind}
+use Rattle.mesh_semantics.specs.Requests.{posts_request}
+use Rattle.mesh_of_code.specs.Coded.{kind_of}
 use Rattle.pool_node.specs.ActOf.{Act}
 use Rattle.pool_node.specs.NodeSteps.{IsTurned}
 use Rattle.pool_node.proofs.PostStep.{call_made, call_full, room_kept, cells_kept, lacks_kept}
@@ -7,6 +10,9 @@ use Rattle.pool_node.proofs.acts.call_turn.Goals as goal
 
 pub returns-then-lacks : goal.returns-then-lacks
 returns-then-lacks c = λ q. call_full c.args.plan.now.unit.now c.args.plan.now.placement.now c.args.plan.now.leaving c.args.parts.now c.requires.set c.args.slot c.requires.slot c.args.sending.to c.args.sending.method c.args.sending.args q c.requires.kind (sym c.lacks.ensures ∙ c.if-lacks.true)
+
+pub ask-number-requires-clause-asks : goal.ask-number-requires-clause-asks
+ask-number-requires-clause-asks c = ap (λ (k : Kind). posts_request (kind_of k)) c.requires.kind
 
 pub post-requires-clause-room : goal.post-requires-clause-room
 post-requires-clause-room c = room_kept c.args.plan.now.unit.now c.args.plan.now.placement.now c.args.plan.now.leaving c.args.parts.now c.requires.set c.args.slot c.requires.slot _ refl c.ask-number.new.self c.ask-number.ensures.changed c.args.sending.to (sym c.lacks.ensures ∙ c.if-lacks.false)

@@ -1,16 +1,30 @@
-use Rattle.std.proofs.Common.{refl, ap, ap₂, ◌∙◌, ℕ}
+use Rattle.std.proofs.Common.{refl, sym, subst, ap, ap₂, ◌∙◌, ◌<◌, ◌^◌, ◌-◌, ℕ, List, get_or}
 use Rattle.run_types.specs.declared.types.NameId.{NameId}
 use Rattle.run_types.specs.declared.types.Label.TheVariants as L
 use Rattle.run_types.specs.declared.types.What.TheVariants as W
 use Rattle.node_semantics.specs.Node.{name_at}
-use Rattle.pool_node.proofs.CreateStep.{free_kept, asks_kept, here_made, here_heap, here_frames, some_placed, class_name}
+use Rattle.node_state.specs.NodeOf.{NodeOf}
+use Rattle.pool_node.proofs.CreateStep.{below_more, no_fewer, free_kept, asks_kept, here_made, here_heap, here_frames, some_placed, class_name}
 use Rattle.pool_node.proofs.making.create_here.Goals as goal
+
+pub name_of-name-requires-clause-slot : goal.name_of-name-requires-clause-slot
+name_of-name-requires-clause-slot c = no_fewer c.args.unit.now c.args.parts.now c.add.new.self _ c.in-Ok.ensures.added.2 c.in-Ok.new c.in-Ok.ensures.slot
+
+pub give-requires-clause-slot : goal.give-requires-clause-slot
+give-requires-clause-slot c = below_more c.args.unit.now c.args.parts.now c.add.new.self c.requires.unit _ c.in-Ok.ensures.added.2 c.args.slot c.requires.slot
 
 pub give-requires-clause-free : goal.give-requires-clause-free
 give-requires-clause-free c = free_kept c.args.unit.now c.args.parts.now c.add.new.self c.requires.unit _ c.in-Ok.ensures.added.2 c.args.slot c.requires.slot c.requires.free
 
 pub give-requires-clause-asks : goal.give-requires-clause-asks
 give-requires-clause-asks c = asks_kept c.args.unit.now c.args.parts.now c.add.new.self c.requires.unit _ c.in-Ok.ensures.added.2 c.args.slot c.requires.slot c.requires.kind.0 c.requires.kind.1
+
+pub count_in-requires-clause-class : goal.count_in-requires-clause-class
+count_in-requires-clause-class c = subst (λ (n : ℕ). c.args.class < n) (sym c.give.ensures.unit.made) c.requires.class
+
+pub count_in-requires-clause-few : goal.count_in-requires-clause-few
+count_in-requires-clause-few c =
+    subst (λ (ks : List ℕ). get_or ks c.args.class 0 < 2 ^ 32 - 1) (sym (ap (λ (n : NodeOf). n.state.made) c.give.ensures.is ∙ c.add.ensures.made)) c.requires.few
 
 pub returns-in-Ok : goal.returns-in-Ok
 returns-in-Ok c = λ l q leaving set e.

@@ -15,25 +15,25 @@ make-requires-clause-vars c =
 
 pub returns-clause-empty : goal.returns-clause-empty
 returns-clause-empty c =
-    let made = c.in_ok-filled-3.ensures ∙ ap (λ (ks : List ClassCode). replicate (length ks) 0) c.items.ensures in
+    let made = c.in_ok-made.ensures ∙ ap (λ (ks : List ClassCode). replicate (length ks) 0) c.items.ensures in
     let p : NodeParts = record {
       id = c.args.id;
       cells = c.args.placement.now.cells;
-      heap = c.in_ok-make.field-0;
-      mailbox = c.in_ok-make-2.field-0;
-      outstanding = c.in_ok-make-3.field-0;
-      faults = c.in_ok-filled.field-0;
-      goals = c.in_ok-filled-2.field-0;
-      ready = c.in_ok-make-4.field-0;
+      heap = c.in_ok-heap.heap;
+      mailbox = c.in_ok-mailbox.mailbox;
+      outstanding = c.in_ok-tables.tables.outstanding;
+      faults = c.in_ok-tables.tables.faults;
+      goals = c.in_ok-tables.tables.goals;
+      ready = c.in_ok-tables.tables.ready;
       last = None;
-      made = c.in_ok-filled-3.field-0;
+      made = c.in_ok-made.made;
     } in
-    let fresh = fresh_view c.args.unit.now p c.args.id c.args.placement.now.objects c.args.placement.now.frames _ c.in_ok-make.ensures refl made in
+    let fresh = fresh_view c.args.unit.now p c.args.id c.args.placement.now.objects c.args.placement.now.frames _ c.in_ok-heap.ensures refl made in
     fresh ∙ (λ i. record {
       id = c.args.id;
       most_objects = c.args.placement.now.objects;
       most_frames = c.args.placement.now.frames;
-      most_cells = (c.in_ok-make-2.ensures i).cells;
+      most_cells = (c.in_ok-mailbox.ensures i).cells;
       most_vars = c.most_vars_of-vars.ensures i;
       state = empty_node (coded c.args.unit.now);
       ready = [];
@@ -41,7 +41,7 @@ returns-clause-empty c =
 
 pub invariant_of-result : goal.invariant_of-result
 invariant_of-result c =
-    fresh_whole _ c.args.placement.now.objects (ap (λ (h : HeapOf). h.node) c.in_ok-make.ensures) (ap (λ (h : HeapOf). h.most_objects) c.in_ok-make.ensures)
-    (ap (λ (h : HeapOf). h.objects) c.in_ok-make.ensures) c.requires.suits.objects.1 c.requires.suits.objects.0
-    (subst (λ (n : ℕ). 1 ≤ n) (sym (ap (λ (h : HeapOf). h.most_frames) c.in_ok-make.ensures)) c.requires.suits.frames.0) c.in_ok-make-2.ensures c.in_ok-make-3.ensures c.in_ok-filled.ensures c.in_ok-filled-2.ensures
-    c.in_ok-make-4.ensures
+    fresh_whole _ c.args.placement.now.objects (ap (λ (h : HeapOf). h.node) c.in_ok-heap.ensures) (ap (λ (h : HeapOf). h.most_objects) c.in_ok-heap.ensures)
+    (ap (λ (h : HeapOf). h.objects) c.in_ok-heap.ensures) c.requires.suits.objects.1 c.requires.suits.objects.0
+    (subst (λ (n : ℕ). 1 ≤ n) (sym (ap (λ (h : HeapOf). h.most_frames) c.in_ok-heap.ensures)) c.requires.suits.frames.0) c.in_ok-mailbox.ensures c.in_ok-tables.ensures.outstanding c.in_ok-tables.ensures.faults c.in_ok-tables.ensures.goals
+    c.in_ok-tables.ensures.ready
