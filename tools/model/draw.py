@@ -140,3 +140,106 @@ def drawn(seed):
     program = Drawn(dice)
     placement, width, height = drawn_placement(dice, program.classes)
     return program.text(), placement, drawn_schedule(dice, width, height, dice.random() < 0.3)
+
+
+class Race:
+    """A small program with runs that differ: two to four objects write, race for an answer, choose, meet errors, get stuck, or leave messages.
+    The methods of all classes have types by their names: a(Int), b() : Int, and c(C) for a class C."""
+
+    def __init__(self, dice):
+        self.dice = dice
+        self.classes = ["A", "B"][: dice.randint(1, 2)]
+        self.others = [dice.choice(self.classes) for _ in range(dice.choice([1, 2, 2, 2, 2, 3]))]
+        # (objects of other classes may call the root back)
+        self.methods = {**{name: dice.choice(["", "a", "ab", "ab", "ac", "abc"]) for name in self.classes}, "Main": dice.choice(["", "", "a", "b"])}
+        self.friends = {**{name: dice.choice([*self.classes, "Main"]) for name in self.classes}, "Main": self.others[0]}
+
+    def text(self):
+        return "".join(self.one_class(name) for name in [*self.classes, "Main"])
+
+    def one_class(self, name):
+        dice, scope = self.dice, {"v": "Int"}
+        if name == "Main":
+            scope.update((f"x{place}", type_) for place, type_ in enumerate(self.others))
+            parts = [f"{it} := new {type_}" for it, type_ in scope.items() if it != "v"]
+            parts += [f"v := {dice.randint(0, 2)}"] * (dice.random() < 0.5)
+            works = [self.statement(name, scope, 1) for _ in range(dice.randint(1, 3))] + [self.sent(name, scope, "!!") for _ in range(dice.randint(1, 3))]
+            parts += dice.sample(works, len(works))
+        else:
+            scope.update({"o": self.friends[name]} if "c" in self.methods[name] else {})
+            parts = [f"v := {dice.randint(0, 2)}"] * (dice.random() < 0.5)
+            parts += [self.statement(name, scope, 1)] * (dice.random() < 0.2) + self.service(name, scope)
+        variables = [f"var {it} : {type_}" for it, type_ in scope.items()]
+        methods = [self.method(name, method, scope) for method in self.methods[name]]
+        return "\n".join([f"class {name}", *variables, *methods, f"body {'; '.join(parts)} end\n"])
+
+    def method(self, name, method, scope):
+        dice, friend = self.dice, self.friends[name]
+        head = {"a": "a(p : Int)", "b": "b() : Int", "c": f"c(q : {friend})"}[method]
+        inner = {**scope, **{"a": {"p": "Int"}, "b": {}, "c": {"q": friend}}[method]}
+        parts = {"a": ["write p"] * (dice.random() < 0.7), "b": ["v := v + 1"] * (dice.random() < 0.2), "c": ["o := q"]}[method]
+        body = "; ".join(parts + [self.statement(name, inner, 0) for _ in range(dice.choice([0, 0, 1, 1, 2]))])
+        end = f" result {self.number(inner)}" if method == "b" else ""
+        end += f" post {self.statement(name, inner, 0)}" if dice.random() < 0.15 else ""
+        return f"method {head} begin {body}{end} end"
+
+    def service(self, name, scope):
+        """The answers of a body; what it does where it has no methods."""
+        dice, methods = self.dice, self.methods[name]
+        if not methods:
+            return [self.statement(name, scope, 1) for _ in range(dice.randint(1, 2))]
+        draw = dice.random()
+        if draw < 0.3:
+            return [f"answer({', '.join(dice.sample(methods, dice.randint(1, len(methods))))})" for _ in range(dice.randint(1, 3))] + ["write v"] * (draw < 0.1)
+        if draw < 0.7:
+            return [f"while true do answer({', '.join(methods)}) od"]
+        return [self.choice(name, scope) for _ in range(dice.randint(1, 2))]
+
+    def choice(self, name, scope):
+        dice, alternatives = self.dice, []
+        for _ in range(dice.randint(1, 3)):
+            guard = "true" if dice.random() < 0.8 else dice.choice(["v == 1", "v != 1", "false"])
+            offered = f" answer({dice.choice(self.methods[name])})" if self.methods[name] and dice.random() < 0.7 else ""
+            work = self.statement(name, scope, 0) if dice.random() < 0.6 else ""
+            alternatives.append(f"when {guard}{offered} then {work}")
+        return f"select {' '.join(alternatives)} end"
+
+    def number(self, scope):
+        name = "p" if "p" in scope and self.dice.random() < 0.6 else "v"
+        draw = self.dice.random()
+        return str(self.dice.randint(0, 9)) if draw < 0.65 else name if draw < 0.9 else f"{name} + 1" if draw < 0.95 else f"1 / {name}"
+
+    def sent(self, name, scope, sign):
+        """A call or a send, if the scope has an object that takes one."""
+        dice = self.dice
+        others = [(it, type_) for it, type_ in scope.items() if self.methods.get(type_)]
+        if not others:
+            return f"write {self.number(scope)}"
+        it, type_ = dice.choice(others)
+        method = dice.choice(self.methods[type_])
+        if method == "b":
+            return f"{it} !! b()" if sign == "!!" else dice.choice([f"write {it} ! b()", f"v := {it} ! b()", f"{it} ! b()"])
+        return f"{it} {sign} {method}({self.number(scope) if method == 'a' else self.friend(self.friends[type_], name, scope)})"
+
+    def friend(self, type_, name, scope):
+        known = [it for it, its in scope.items() if its == type_] + ["self"] * (type_ == name)
+        return self.dice.choice(known) if known and self.dice.random() < 0.95 else "nil" if type_ == "Main" else f"new {type_}"
+
+    def statement(self, name, scope, depth):
+        dice = self.dice
+        draw = dice.random()
+        if draw < (0.6 if name == "Main" else 0.3):
+            return self.sent(name, scope, "!!" if dice.random() < (0.7 if name == "Main" else 0.4) else "!")
+        if draw < 0.85:
+            item = dice.choice(["self", "nil"] + [it for it, type_ in scope.items() if type_ != "Int"]) if dice.random() < 0.06 else self.number(scope)
+            return f'write "s {dice.randint(0, 9)}"' if dice.random() < 0.1 else f"write {item}"
+        if draw < 0.9 and depth:
+            return f"if {dice.choice(['v == 1', 'v != 1', 'true'])} then {self.statement(name, scope, 0)} else {self.statement(name, scope, 0)} fi"
+        if draw < 0.95 and depth:
+            return self.choice(name, scope)
+        return f"answer({dice.choice(self.methods[name])})" if self.methods[name] and draw < 0.97 else f"v := {self.number(scope)}"
+
+
+def drawn_race(seed):
+    """The text of a small program with runs that differ."""
+    return Race(random.Random(seed)).text()

@@ -5,10 +5,11 @@ ghost use Rattle.command_shell.specs.Statuses.{code_of};
 /// The status with which a call of `pool` or `explore` ends. A search uses `Done`, `DoneFaulted` and `ScheduleOver` too.
 #[derive(Clone, Copy, Debug, PartialEq, Eq)]
 pub enum Status {
-    /// The run ended quiet, the text was written, the record is a run, or no run leads to what a search looks for.
+    /// The run ended quiet, the text was written, the record is a run, no run leads to what a search looks for, all
+    /// outcomes are listed, or the outcome that was asked for is shown.
     Done,
-    /// The run ended quiet after a run-time error, the record is not a run, or the output has a run that a search looks
-    /// for.
+    /// The run ended quiet after a run-time error, the record is not a run, the output has a run that a search looks
+    /// for, or there is no outcome at the place that was asked for.
     DoneFaulted,
     /// An input was rejected. `err` has the line with its name and its fault.
     Refused,

@@ -28,22 +28,22 @@ use Rattle.command_shell.specs.Ends.{Reaches, WholeTextWritten}
 use Rattle.command_shell.specs.Results as D
 use Rattle.command_shell.specs.Verdicts.{status_of_verdict}
 use Rattle.pool_outside.specs.Reading.{AllRead, Reading}
-use Rattle.pool_search.specs.declared.queries.Query.{Query}
 use Rattle.record_check.specs.RecordJudgement.{Judged}
-use Rattle.search_text.specs.declared.answers.Outcome.{Outcome}
-use Rattle.search_text.specs.declared.answers.Outcome.TheVariants as O
-use Rattle.search_text.specs.Answers.{Answers}
+use Rattle.search_text.specs.declared.answers.Found.{Found}
+use Rattle.search_text.specs.declared.answers.Found.TheVariants as O
+use Rattle.search_text.specs.declared.answers.Question.{Question}
+use Rattle.search_text.specs.Answers.{IsAnswerTo}
 use Rattle.explore_driver.specs.declared.outputs.Output.{Output}
 use Rattle.explore_driver.specs.declared.words.Shown.{Shown}
 use Rattle.explore_driver.specs.declared.words.Shown.TheVariants as Sh
 use Rattle.explore_driver.specs.Ends.{IsAccepted, explore_program}
-use Rattle.explore_driver.specs.Outputs.{IsFilledText, IsOutput, IsTextOf, status_of_outcome}
+use Rattle.explore_driver.specs.Outputs.{IsFilledText, IsOutput, IsTextOf, status_of_found}
 use Rattle.explore_driver.specs.Results.{ResultsIn}
 use Rattle.explore_driver.specs.Words.{Request, of_fill, of_follow, of_search, of_watch}
 
 -- the inputs of a command, one after another
 
-abbrev pub reaches_program : (k : Reading) (q : Query) (name : Text) → k.opened ≡ k.opens + 1 → Reaches explore_program k (of_search q name) I.Program name
+abbrev pub reaches_program : (k : Reading) (q : Question) (name : Text) → k.opened ≡ k.opens + 1 → Reaches explore_program k (of_search q name) I.Program name
 reaches_program k q name h = record { before = []; behind = []; texts = []; place = refl; accepted = tt; opened = h }
 
 abbrev pub reaches_watched : (k : Reading) (shown : Shown) (name other : Text) → k.opened ≡ k.opens + 1 → Reaches explore_program k (of_watch shown name other) I.Program name
@@ -69,10 +69,10 @@ pub makes_for : (k : Reading) (q r : Request) (result : Result Output InputError
 makes_for k q r result e h = subst (λ (x : Request). ResultsIn k x result) e h
 
 -- what comes of a program
-pub search_makes : (k : Reading) (q : Query) (name s : Text) (read : Parsed) (o : Output) (outcome : Outcome) → IsReadAs k.told I.Program name s → IsProgramOf s read
-    → faults (program_of read.program) ≡ [] → k.opened ≡ k.opens + 1 → length s ≡ k.given → k.live ≡ false → AllRead k → Answers read.names (program_of read.program) q o.text.items outcome
-    → o.status ≡ status_of_outcome outcome → ResultsIn k (of_search q name) (Ok o)
-search_makes k q name s read o outcome first is typed opened given ended calm answers status = D.made o refl (record {
+pub search_makes : (k : Reading) (q : Question) (name s : Text) (read : Parsed) (o : Output) (found : Found) → IsReadAs k.told I.Program name s → IsProgramOf s read
+    → faults (program_of read.program) ≡ [] → k.opened ≡ k.opens + 1 → length s ≡ k.given → k.live ≡ false → AllRead k → IsAnswerTo read.names (program_of read.program) q o.text.items found
+    → o.status ≡ status_of_found found → ResultsIn k (of_search q name) (Ok o)
+search_makes k q name s read o found first is typed opened given ended calm answers status = D.made o refl (record {
   texts = s ∷ [];
   accepted = (first, (program_of read.program, ((read.names, is.parsed), typed)), tt);
   opened = opened;
@@ -84,7 +84,7 @@ search_makes k q name s read o outcome first is typed opened given ended calm an
     program = program_of read.program;
     parsed = is.parsed;
     typed = typed;
-    outcome = outcome;
+    found = found;
     answers = answers;
     ended = status;
   };
@@ -154,10 +154,12 @@ fill_makes k name other s t read lines o v first is typed second named opened gi
 
 -- an output is written with a status that says so
 
-outcome_whole : (outcome : Outcome) → WholeTextWritten (status_of_outcome outcome)
-outcome_whole O.Finite = inl refl
-outcome_whole O.Shown = inr (inl refl)
-outcome_whole O.Over = inr (inr (inl refl))
+found_whole : (found : Found) → WholeTextWritten (status_of_found found)
+found_whole O.Finite = inl refl
+found_whole O.Shown = inr (inl refl)
+found_whole O.Over = inr (inr (inl refl))
+found_whole O.Run = inl refl
+found_whole O.Missing = inr (inl refl)
 
 pub verdict_whole : (v : Verdict) → WholeTextWritten (status_of_verdict v)
 verdict_whole V.Yes = inl refl
@@ -166,7 +168,7 @@ verdict_whole (V.Moving o) = inr (inl refl)
 
 pub output_whole : (r : Request) (texts : List Text) (text : Text) (s : Status) → IsOutput r texts text s → WholeTextWritten s
 output_whole (of_search q name) [] text s h = absurd h
-output_whole (of_search q name) (p ∷ []) text s h = subst WholeTextWritten (sym h.ended) (outcome_whole h.outcome)
+output_whole (of_search q name) (p ∷ []) text s h = subst WholeTextWritten (sym h.ended) (found_whole h.found)
 output_whole (of_search q name) (p ∷ l ∷ ls) text s h = absurd h
 output_whole (of_watch shown name other) [] text s h = absurd h
 output_whole (of_watch shown name other) (p ∷ []) text s h = absurd h

@@ -11,11 +11,11 @@ use Rattle.command_inputs.specs.Programs.{IsParsed}
 use Rattle.command_shell.specs.declared.status.Status.{Status}
 use Rattle.command_shell.specs.declared.status.Status.TheVariants as S
 use Rattle.command_shell.specs.Verdicts.{status_of_verdict}
-use Rattle.pool_search.specs.declared.queries.Query.{Query}
 use Rattle.record_check.specs.RecordJudgement.{Judged}
-use Rattle.search_text.specs.declared.answers.Outcome.{Outcome}
-use Rattle.search_text.specs.declared.answers.Outcome.TheVariants as O
-use Rattle.search_text.specs.Answers.{Answers}
+use Rattle.search_text.specs.declared.answers.Found.{Found}
+use Rattle.search_text.specs.declared.answers.Found.TheVariants as O
+use Rattle.search_text.specs.declared.answers.Question.{Question}
+use Rattle.search_text.specs.Answers.{IsAnswerTo}
 use Rattle.record_fill.specs.Filled.{IsFilled}
 use Rattle.record_writer.specs.RecordText.{record_text}
 use Rattle.watch_text.specs.WatchedRun.{IsWatched, IsWatchedPart}
@@ -25,20 +25,22 @@ use Rattle.explore_driver.specs.declared.words.Shown.TheVariants as Sh
 use Rattle.explore_driver.specs.Words.{Request, of_fill, of_search, of_watch}
 
 -- the status with which the answer of a search is written
-abbrev pub status_of_outcome : Outcome → Status
-status_of_outcome O.Finite = S.Done
-status_of_outcome O.Shown = S.DoneFaulted
-status_of_outcome O.Over = S.ScheduleOver
+abbrev pub status_of_found : Found → Status
+status_of_found O.Finite = S.Done
+status_of_found O.Shown = S.DoneFaulted
+status_of_found O.Over = S.ScheduleOver
+status_of_found O.Run = S.Done
+status_of_found O.Missing = S.DoneFaulted
 
 -- the source is a program without class faults, and the text is the answer of the search for it
-pub record IsAnswerOn (q : Query) (source text : Text) (status : Status) : Type 0 where
+pub record IsAnswerOn (q : Question) (source text : Text) (status : Status) : Type 0 where
   pub names : List Text
   pub program : ProgramTree
   pub parsed : IsParsed source names program
   pub typed : faults program ≡ []
-  pub outcome : Outcome
-  pub answers : Answers names program q text outcome
-  pub ended : status ≡ status_of_outcome outcome
+  pub found : Found
+  pub answers : IsAnswerTo names program q text found
+  pub ended : status ≡ status_of_found found
 
 -- the text shows the lines as a run of the program, whole or in part, or who waits after them, with the verdict on them
 abbrev pub IsTextOf : Shown → ProgramTree → List Text → List Line → Text → Verdict → Type 0

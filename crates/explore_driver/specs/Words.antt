@@ -4,16 +4,17 @@ use Rattle.text_scan.specs.Text.{Text}
 use Rattle.text_scan.specs.Lines.{decimal_of}
 use Rattle.text_scan.specs.declared.spans.Decimal.{Decimal}
 use Rattle.text_scan.specs.declared.spans.Decimal.TheVariants as Number
-use Rattle.pool_search.specs.declared.queries.Query.{Query}
 use Rattle.pool_search.specs.declared.queries.Target.{Target}
 use Rattle.pool_search.specs.declared.queries.Target.TheVariants as W
+use Rattle.search_text.specs.declared.answers.Question.{Question}
+use Rattle.search_text.specs.declared.answers.Question.TheVariants as Q
 use Rattle.explore_driver.specs.declared.words.Shown.{Shown}
 use Rattle.explore_driver.specs.declared.words.Shown.TheVariants as Sh
 
 -- A command: a search of the program of this name; the record of this name, shown as a run of the program; the record
 -- with local transitions filled in; or the stream of this name, followed as a run of the program.
 pub data Request : Type 0 where
-  of_search : (question : Query) (name : Text) → Request
+  of_search : (question : Question) (name : Text) → Request
   of_watch : (shown : Shown) (name record_name : Text) → Request
   of_fill : (name record_name : Text) → Request
   of_follow : (name stream_name : Text) → Request
@@ -36,16 +37,32 @@ most_of (Number.Value k) = if nat_le 1 k && nat_le k 10000000 then Some k else N
 abbrev pub search_for : Target → Bool → Text → Text → Option Request
 search_for wanted all name n =
     if is_dashed name then None
-    else option_map (λ most. of_search (record { wanted = wanted; all = all; most = most }) name) (most_of (decimal_of n))
+    else option_map (λ most. of_search (Q.Sought (record { wanted = wanted; all = all; most = most })) name) (most_of (decimal_of n))
 
--- `stuck` or `fault`, or neither for both; then `all`, which is optional; then the name of a file, and a bound
+-- the search for all outcomes
+abbrev pub outcomes_for : Text → Text → Option Request
+outcomes_for name n = if is_dashed name then None else option_map (λ most. of_search (Q.Outcomes most) name) (most_of (decimal_of n))
+
+-- the search for a run with the outcome at this place, from 1 to 10,000,000
+abbrev pub run_for : Text → Text → Text → Option Request
+run_for j name n =
+    if is_dashed name then None
+    else option_and_then (λ place. option_map (λ most. of_search (Q.Run place most) name) (most_of (decimal_of n))) (most_of (decimal_of j))
+
+-- `stuck` or `fault`, or neither for both, and then `all`, which is optional; or `writes`; or `run` and the place of an
+-- outcome. Then the name of a file, and a bound.
 abbrev pub search_of : List Text → Option Request
 search_of [] = None
 search_of (a ∷ []) = None
 search_of (name ∷ n ∷ []) = search_for W.Both false name n
 search_of (a ∷ name ∷ n ∷ []) =
-    if bytes_eq a (codes "all") then search_for W.Both true name n else option_and_then (λ wanted. search_for wanted false name n) (wanted_of a)
-search_of (a ∷ b ∷ name ∷ n ∷ []) = if bytes_eq b (codes "all") then option_and_then (λ wanted. search_for wanted true name n) (wanted_of a) else None
+    if bytes_eq a (codes "all") then search_for W.Both true name n
+    else if bytes_eq a (codes "writes") then outcomes_for name n
+    else option_and_then (λ wanted. search_for wanted false name n) (wanted_of a)
+search_of (a ∷ b ∷ name ∷ n ∷ []) =
+    if bytes_eq a (codes "run") then run_for b name n
+    else if bytes_eq b (codes "all") then option_and_then (λ wanted. search_for wanted true name n) (wanted_of a)
+    else None
 search_of (a ∷ b ∷ c ∷ d ∷ e ∷ ws) = None
 
 -- the lines from the first number up to the last

@@ -8,7 +8,7 @@ ghost use Rattle.pool_outside.specs.Reading.{reading};
 ghost use Rattle.pool_syntax.specs.TreeOf.{program_of};
 ghost use Rattle.explore_driver.specs.AskedRequest.{IsOrdered, IsSized, request};
 ghost use Rattle.explore_driver.specs.Ends.{inputs};
-ghost use Rattle.explore_driver.specs.Outputs.{IsFilledText, IsTextOf, status_of_outcome};
+ghost use Rattle.explore_driver.specs.Outputs.{IsFilledText, IsTextOf, status_of_found};
 ghost use Rattle.explore_driver.specs.Results.{ResultsIn};
 ghost use Rattle.explore_driver.specs.Words.{of_fill, of_search, of_watch};
 
@@ -20,12 +20,11 @@ use command_inputs::{
 use command_shell::{Status, status_of_verdict};
 use label_text::push_line;
 use pool_outside::Files;
-use pool_search::Query;
 use record_check::theorems::a_record_has_one_verdict;
 use record_fill::fill_record;
 use run_record::theorems::what_is_read_is_readable;
 use run_types::{Line, Names};
-use search_text::{Outcome, answer_of};
+use search_text::{Found, Question, answer_of};
 use std::alloc::{AllocError, Global};
 use watch_text::{Watched, report_waits, watch_lines, watch_record};
 
@@ -37,13 +36,13 @@ pub struct Output {
 }
 
 /// The status with which the answer of a search is written.
-fn status_of_outcome(outcome: Outcome) -> Status
-    ensures { result ≡ status_of_outcome outcome }
+fn status_of_found(found: Found) -> Status
+    ensures { result ≡ status_of_found found }
 {
-    match outcome {
-        Outcome::Finite => Status::Done,
-        Outcome::Shown => Status::DoneFaulted,
-        Outcome::Over => Status::ScheduleOver,
+    match found {
+        Found::Finite | Found::Run => Status::Done,
+        Found::Shown | Found::Missing => Status::DoneFaulted,
+        Found::Over => Status::ScheduleOver,
     }
 }
 
@@ -51,7 +50,7 @@ fn status_of_outcome(outcome: Outcome) -> Status
 fn search_output<F: Files>(
     alloc: Global,
     files: &mut F,
-    question: &Query,
+    question: &Question,
     name: &str,
 ) -> Result<Output, InputError>
     requires countable { F.opens files.old ≤ 2 ^ 64 - 5 }
@@ -69,7 +68,7 @@ fn search_output<F: Files>(
     };
     match answer_of(alloc, &checked, &parsed.names, question) {
         Ok(answer) => Ok(Output {
-            status: status_of_outcome(answer.outcome),
+            status: status_of_found(answer.found),
             text: answer.text,
         }),
         Err(AllocError) => Err(InputError::Memory),

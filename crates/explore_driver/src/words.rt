@@ -1,13 +1,14 @@
 //! Reads the arguments of a command.
 ghost use Rattle.std.specs.Prelude.{◌≡◌, [], ◌∷◌, option_map, IfSome};
 ghost use Rattle.text_scan.specs.Lines.{decimal_of};
-ghost use Rattle.explore_driver.specs.Words.{command_of, follow_of, is_dashed, lines_of, most_of, of_fill, of_follow, of_watch, pair_of, request_of, search_for, search_of, texts_of, wanted_of, watch_of};
+ghost use Rattle.explore_driver.specs.Words.{command_of, follow_of, is_dashed, lines_of, most_of, of_fill, of_follow, of_watch, outcomes_for, pair_of, request_of, run_for, search_for, search_of, texts_of, wanted_of, watch_of};
 ghost use Rattle.explore_driver.specs.AskedRequest.{IsOrdered, IsSized, IsSizedCommand, request, wanted};
 
 use pool_search::{Query, Target};
+use search_text::Question;
 use text_scan::{Decimal, decimal};
 
-/// The smallest and the largest bound on the number of kept configurations.
+/// The smallest and the largest bound on the number of kept configurations, and place of an outcome.
 const FEWEST: u64 = 1;
 
 const MOST: u64 = 10_000_000;
@@ -31,7 +32,7 @@ pub enum Shown {
 pub enum Asked<'a> {
     /// Search the runs of the program.
     Search {
-        question: Query,
+        question: Question,
         name: &'a str,
     },
     /// Show the record as a run of the program.
@@ -103,14 +104,53 @@ fn search_for<'a>(wanted: Target, all: bool, name: &'a str, word: &str) -> Optio
     }
     match most_of(word) {
         Some(most) => Some(Asked::Search {
-            question: Query { wanted, all, most },
+            question: Question::Sought(Query { wanted, all, most }),
             name,
         }),
         None => None,
     }
 }
 
-/// The search of three arguments: `all` or a kind of run, and then a name and a bound.
+/// The search for all outcomes. None if the name begins with `-` or the other argument is not a bound.
+fn outcomes_for<'a>(name: &'a str, word: &str) -> Option<Asked<'a>>
+    ensures request { option_map request result ≡ outcomes_for name.entry.now word.now }
+    ensures sized { IfSome result (λ asked. IsSized asked) }
+{
+    if is_dashed(name) {
+        return None;
+    }
+    match most_of(word) {
+        Some(most) => Some(Asked::Search {
+            question: Question::Outcomes { most },
+            name,
+        }),
+        None => None,
+    }
+}
+
+/// The search for a run with one of the outcomes, given by its place. None if the name begins with `-`, the place is not
+/// a number from 1 to 10,000,000, or the last argument is not a bound.
+fn run_for<'a>(place: &str, name: &'a str, word: &str) -> Option<Asked<'a>>
+    ensures request { option_map request result ≡ run_for place.now name.entry.now word.now }
+    ensures sized { IfSome result (λ asked. IsSized asked) }
+{
+    if is_dashed(name) {
+        return None;
+    }
+    let place = match most_of(place) {
+        Some(place) => place,
+        None => return None,
+    };
+    match most_of(word) {
+        Some(most) => Some(Asked::Search {
+            question: Question::Run { place, most },
+            name,
+        }),
+        None => None,
+    }
+}
+
+/// The search of three arguments: `all`, `writes` or a kind of run, and then a name and a bound.
 fn search_of_three<'a>(first: &str, name: &'a str, word: &str) -> Option<Asked<'a>>
     ensures request { option_map request result ≡ search_of (first.now ∷ name.entry.now ∷ word.now ∷ []) }
     ensures sized { IfSome result (λ asked. IsSized asked) }
@@ -118,17 +158,23 @@ fn search_of_three<'a>(first: &str, name: &'a str, word: &str) -> Option<Asked<'
     if first == "all" {
         return search_for(Target::Both, true, name, word);
     }
+    if first == "writes" {
+        return outcomes_for(name, word);
+    }
     match wanted_of(first) {
         Some(wanted) => search_for(wanted, false, name, word),
         None => None,
     }
 }
 
-/// The search of four arguments: a kind of run, `all`, a name and a bound.
+/// The search of four arguments: `run` and the place of an outcome, or a kind of run and `all`, and then a name and a bound.
 fn search_of_four<'a>(first: &str, second: &str, name: &'a str, word: &str) -> Option<Asked<'a>>
     ensures request { option_map request result ≡ search_of (first.now ∷ second.now ∷ name.entry.now ∷ word.now ∷ []) }
     ensures sized { IfSome result (λ asked. IsSized asked) }
 {
+    if first == "run" {
+        return run_for(second, name, word);
+    }
     if second != "all" {
         return None;
     }

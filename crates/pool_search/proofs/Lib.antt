@@ -1,6 +1,7 @@
 pub mod SortedMaps
 pub mod ObjectNumbers
 pub mod StateTableGrowth
+pub mod WrittenListsGrowth
 pub mod NumberingSteps
 pub mod NumberingRoundTrip
 mod Rows
@@ -8,4 +9,6 @@ pub mod ListGrowth
 pub mod SearchComplete
 pub mod RunExtension
 pub mod EntryExpansion
+pub mod FoundLists
+pub mod OutcomesComplete
 pub mod ConfigurationClass

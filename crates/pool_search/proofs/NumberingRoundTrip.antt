@@ -3,20 +3,26 @@ use Rattle.std.proofs.Common.{◌≡◌, refl, ap, ap₂, ◌∙◌, ℕ, ◌<�
 use Rattle.std.specs.Option.{option_map, IfSome}
 use Rattle.std.specs.List.{slice_get}
 use Rattle.std.proofs.lemmas.Option.{slice_get-map, slice_get_read}
+use Rattle.run_types.specs.declared.types.Item.{Item}
 use Rattle.run_types.specs.Message.{Message}
 use Rattle.run_types.specs.Tables.{Pair}
 use Rattle.pool_relation.specs.Action.{Object}
 use Rattle.pool_relation.specs.Configuration.{Configuration}
 use Rattle.pool_search.specs.declared.numbered.Numbered.{Numbered}
-use Rattle.pool_search.specs.Numbers.{objects_from, queue_messages, with_next}
+use Rattle.pool_search.specs.Numbers.{objects_from, queue_messages, passed}
 
 abbrev made_of : List (ℕ × Object) → List (Pair × List Message) → Configuration
 made_of os ms = record { objects = os; messages = ms }
 
+-- the entry at a place
+pub passed_at : (xs : List Object) (ws : List (List Item)) (es : List Numbered) (i : ℕ) (e : Numbered) → i < length es → e ≡ get_or es i e
+    → slice_get (map (passed xs ws) es) i ≡ Some (passed xs ws e)
+passed_at xs ws es i e l at = slice_get-map (passed xs ws) es i ∙ ap (option_map (passed xs ws)) (slice_get_read es (length es) i e refl l at)
+
 -- the configuration at a place
-pub configuration_at : (xs : List Object) (es : List Numbered) (i : ℕ) (e : Numbered) (c : Configuration) → i < length es → e ≡ get_or es i e
+pub configuration_at : (xs : List Object) (ws : List (List Item)) (es : List Numbered) (i : ℕ) (e : Numbered) (c : Configuration) → i < length es → e ≡ get_or es i e
     → c.objects ≡ objects_from 0 xs e.objects.items → c.messages ≡ map queue_messages e.queues.items
-    → IfSome (slice_get (map (with_next xs) es) i) (λ (x : ℕ × Configuration). c ≡ x.1)
-configuration_at xs es i e c l at o m =
-    let there : slice_get (map (with_next xs) es) i ≡ Some (with_next xs e) = slice_get-map (with_next xs) es i ∙ ap (option_map (with_next xs)) (slice_get_read es (length es) i e refl l at) in
+    → IfSome (slice_get (map (passed xs ws) es) i) (λ x. c ≡ x.configuration)
+configuration_at xs ws es i e c l at o m =
+    let there = passed_at xs ws es i e l at in
     rw there (ap₂ made_of o m)

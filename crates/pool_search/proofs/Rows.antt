@@ -4,8 +4,12 @@ use Rattle.pool_relation.specs.Action.{Object}
 use Rattle.search_states.specs.States.{states}
 use Rattle.pool_search.specs.declared.visited.VisitedSet.{VisitedSet}
 use Rattle.pool_search.specs.declared.numbered.Numbered.{Numbered}
-use Rattle.pool_search.specs.VisitedConfigurations.{kept_list}
-use Rattle.pool_search.specs.Numbers.{AreNamedFrom, objects_from, with_next}
+use Rattle.pool_search.specs.VisitedConfigurations.{entry, kept_list}
+use Rattle.pool_search.specs.declared.writings.Node.{Node}
+use Rattle.pool_search.specs.WrittenLists.{with_nodes}
+use Rattle.pool_search.specs.WritingsOf.{lists_of}
+use Rattle.run_types.specs.declared.types.Item.{Item}
+use Rattle.pool_search.specs.Numbers.{AreNamedFrom, objects_from, passed}
 
 -- three objects, two of them in one state
 three_objects : (x y : Object) → objects_from 0 (x ∷ y ∷ []) (1 ∷ 0 ∷ 1 ∷ []) ≡ (0, y) ∷ (1, x) ∷ (2, y) ∷ []
@@ -18,9 +22,15 @@ no_such_names : (x : Object) → AreNamedFrom 0 ((1, x) ∷ []) → ⊥
 no_such_names x h = absurd (grind (arith, h))
 
 -- a configuration without messages
-two_objects : (x y : Object) (e : Numbered) → e.next ≡ 2 → e.objects.items ≡ 0 ∷ 1 ∷ [] → e.queues.items ≡ [] → with_next (x ∷ y ∷ []) e ≡ (2, record { objects = (0, x) ∷ (1, y) ∷ []; messages = [] })
-two_objects x y e n o q = rw (n, o, q) refl
+two_objects : (x y : Object) (w : List Item) (e : Numbered) → e.next ≡ 2 → e.written ≡ 1 → e.objects.items ≡ 0 ∷ 1 ∷ [] → e.queues.items ≡ []
+    → passed (x ∷ y ∷ []) ([] ∷ w ∷ []) e ≡ entry 2 w (record { objects = (0, x) ∷ (1, y) ∷ []; messages = [] })
+two_objects x y w e n k o q = rw (n, k, o, q) refl
 
 -- the list of two
-two_kept : (k : VisitedSet) (xs : List Object) (d e : Numbered) → states k.table ≡ xs → k.entries.items ≡ d ∷ e ∷ [] → kept_list k ≡ with_next xs d ∷ with_next xs e ∷ []
-two_kept k xs d e s f = rw (s, f) refl
+two_kept : (k : VisitedSet) (xs : List Object) (ws : List (List Item)) (d e : Numbered) → states k.table ≡ xs → lists_of k.writings ≡ ws → k.entries.items ≡ d ∷ e ∷ []
+    → kept_list k ≡ passed xs ws d ∷ passed xs ws e ∷ []
+two_kept k xs ws d e s l f = rw (s, l, f) refl
+
+-- three lists: nothing, an item, and another item after it
+three_lists : (a b : Item) → with_nodes ([] ∷ []) (record { before = 0; item = a } ∷ record { before = 1; item = b } ∷ []) ≡ [] ∷ (a ∷ []) ∷ (a ∷ b ∷ []) ∷ []
+three_lists a b = refl

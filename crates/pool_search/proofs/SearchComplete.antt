@@ -1,6 +1,5 @@
--- If a search has visited all its entries, its list is closed,
--- and no run leads to a configuration that the query looks for.
-use Rattle.std.proofs.Common.{◌≡◌, ◌≤◌, ◌+◌, inl, inr, sym, ap, ◌∙◌, subst, ℕ, suc, [], ◌∷◌, ◌++◌, length, take, Some, Bool, true, false, arith}
+-- If a search has visited all its entries, its list is closed, and no run leads to what it did not find.
+use Rattle.std.proofs.Common.{◌≡◌, ◌≤◌, ◌+◌, inl, inr, sym, ap, ◌∙◌, subst, ℕ, suc, List, [], ◌∷◌, ◌++◌, length, map, take, Some, None, Bool, true, false, arith}
 use Rattle.std.specs.List.{slice_get}
 use Rattle.std.proofs.lemmas.List.{take_all, take-append-le}
 use Rattle.std.proofs.lemmas.Option.{slice_get_within, get_or_from_slice_get}
@@ -9,74 +8,95 @@ use Rattle.pool_syntax.specs.Terms.{ProgramTree}
 use Rattle.run_types.specs.Tables.{Each}
 use Rattle.pool_relation.specs.Configuration.{Configuration}
 use Rattle.reachability.specs.Search.{IsReached, IsIn, IsInOrder, IsClosedAfterSettling}
-use Rattle.search_laws.specs.Renamed.{IsNameless}
 use Rattle.reachability.specs.Labels.{labels_to_try}
-use Rattle.search_laws.specs.Tried.{AllLeadInto, AreTried}
-use Rattle.search_laws.proofs.Laws.{whole_by_trying, never_stuck_after_settling, never_unfinished_after_settling, never_faulty_after_settling}
+use Rattle.search_laws.specs.Renamed.{IsNameless}
+use Rattle.search_laws.specs.Outcomes.{Passed, IsPassed, IsWholeWith}
+use Rattle.search_laws.specs.Tried.{Course, states_only, with_writes, AllLeadInto, AreTried, IsTried, state_of}
+use Rattle.search_laws.proofs.Laws.{whole_by_trying, whole_with_writes, never_stuck_after_settling, never_unfinished_after_settling, never_faulty_after_settling}
 use Rattle.pool_search.specs.declared.queries.Query.{Query}
+use Rattle.pool_search.specs.Entries.{IsPassedOver}
 use Rattle.pool_search.specs.SearchTargets.{CountsAsStuck, IsUnwanted}
-use Rattle.pool_search.specs.Progress.{Entries, Grows, IsSearchedTo}
-use Rattle.pool_search.proofs.ListGrowth.{in_grown, tried_grown, each_more, tried_more, each_at}
+use Rattle.pool_search.specs.Progress.{Entries, Grows, IsReachedWith, IsSearchedTo}
+use Rattle.pool_search.proofs.ListGrowth.{in_grown, tried_grown, each_more, each_weaker, tried_more, each_at}
 
 -- the list before the place and the entry there
-pub take_next : (es : Entries) (at : ℕ) (e : ℕ × Configuration) → slice_get es at ≡ Some e → take (at + 1) es ≡ take at es ++ e ∷ []
+pub take_next : (es : Entries) (at : ℕ) (e : Passed) → slice_get es at ≡ Some e → take (at + 1) es ≡ take at es ++ e ∷ []
 take_next es at e g =
     let one : at + 1 ≡ suc at = omega arith in
     ap (λ n. take n es) one ∙ take-suc es at e (slice_get_within es at e g) ∙ ap (λ x. take at es ++ x ∷ []) (get_or_from_slice_get es at e e g)
 
--- the list grows
-pub searched_grows : (most : ℕ) (p : ProgramTree) (q : Query) (es fs : Entries) (at : ℕ) → at ≤ length es → Grows most es fs → IsSearchedTo p q es at → IsSearchedTo p q fs at
-searched_grows most p q es fs at inside grows s =
-    record {
-      begins = λ c i. let b = s.begins c i in (b.0, b.1, subst (λ xs. IsIn 1 b.0 xs) (sym grows.is) (in_grown 1 b.0 es grows.added b.2));
-      in_order = grows.in_order s.in_order;
-      tried = subst (λ xs. AreTried p xs (take at fs)) (sym grows.is) (subst (AreTried p (es ++ grows.added)) (sym same) (tried_grown p es grows.added (take at es) s.tried));
-      unwanted = subst (Each (λ (e : ℕ × Configuration). IsUnwanted p q e.1)) (sym same) s.unwanted;
-    }
-  where
-    same : take at fs ≡ take at es
-    same = ap (take at) grows.is ∙ take-append-le at es grows.added inside
+module _ (p : ProgramTree) (k : Course) where
+  -- the list grows
+  pub searched_grows : (most : ℕ) (P : Passed → Type 0) (es fs : Entries) (at : ℕ) → at ≤ length es → Grows p k most es fs → IsSearchedTo p k P es at → IsSearchedTo p k P fs at
+  searched_grows most P es fs at inside grows s =
+      record {
+        begins = λ c i. let b = s.begins c i in (b.0, b.1, subst (λ xs. IsPassed 1 [] b.0 xs) (sym grows.is) (in_grown 1 [] b.0 es grows.added b.2));
+        in_order = grows.in_order s.in_order;
+        reached = grows.reached s.reached;
+        tried = subst (λ xs. AreTried p k xs (take at fs)) (sym grows.is) (subst (AreTried p k (es ++ grows.added)) (sym same) (tried_grown p k es grows.added (take at es) s.tried));
+        visited = subst (Each P) (sym same) s.visited;
+      }
+    where
+      same : take at fs ≡ take at es
+      same = ap (take at) grows.is ∙ take-append-le at es grows.added inside
 
--- one more entry was looked at
-pub searched_next : (p : ProgramTree) (q : Query) (es : Entries) (at n : ℕ) (c : Configuration) → slice_get es at ≡ Some (n, c) → AllLeadInto p es n c (labels_to_try p n c)
-    → IsUnwanted p q c → IsSearchedTo p q es at → IsSearchedTo p q es (at + 1)
-searched_next p q es at n c there leads not_it s =
-    record {
-      begins = s.begins;
-      in_order = s.in_order;
-      tried =
-          subst (AreTried p es) (sym (take_next es at (n, c) there))
-          (tried_more p es (take at es) (n, c) s.tried (each_at (λ (e : ℕ × Configuration). IsInOrder e.1) es at (n, c) s.in_order there) leads);
-      unwanted =
-          subst (Each (λ (e : ℕ × Configuration). IsUnwanted p q e.1)) (sym (take_next es at (n, c) there))
-          (each_more (λ (e : ℕ × Configuration). IsUnwanted p q e.1) (take at es) (n, c) s.unwanted not_it);
-    }
+  -- one more entry was looked at
+  pub searched_next : (P : Passed → Type 0) (es : Entries) (at : ℕ) (e : Passed) → slice_get es at ≡ Some e
+      → AllLeadInto p k es e.next e.items e.configuration (labels_to_try p e.next e.configuration) → P e → IsSearchedTo p k P es at → IsSearchedTo p k P es (at + 1)
+  searched_next P es at e there leads holds s =
+      record {
+        begins = s.begins;
+        in_order = s.in_order;
+        reached = s.reached;
+        tried =
+            subst (AreTried p k es) (sym (take_next es at e there))
+            (tried_more p k es (take at es) e s.tried (each_at (λ (f : Passed). IsInOrder f.configuration) es at e s.in_order there) leads);
+        visited = subst (Each P) (sym (take_next es at e there)) (each_more P (take at es) e s.visited holds);
+      }
 
--- all of the list was looked at
-pub searched_all : (p : ProgramTree) (q : Query) (es : Entries) (at : ℕ) → length es ≤ at → IsSearchedTo p q es at → IsClosedAfterSettling p es
-searched_all p q es at all s = whole_by_trying p es (record { begins = s.begins; tried = subst (AreTried p es) (take_all at es all) s.tried })
+  -- nothing was looked at
+  pub searched_begun : (P : Passed → Type 0) (es : Entries) → IsSearchedTo p k (λ _. Unit {0}) es 0 → IsSearchedTo p k P es 0
+  searched_begun P es s = record { begins = s.begins; in_order = s.in_order; reached = s.reached; tried = s.tried; visited = tt }
+
+  -- another property of what was visited
+  pub searched_weaker : (P Q : Passed → Type 0) → ((e : Passed) → P e → Q e) → (es : Entries) (at : ℕ) → IsSearchedTo p k P es at → IsSearchedTo p k Q es at
+  searched_weaker P Q f es at s = record { begins = s.begins; in_order = s.in_order; reached = s.reached; tried = s.tried; visited = each_weaker P Q f (take at es) s.visited }
+
+  -- all of the list was looked at
+  pub tried_all : (P : Passed → Type 0) (es : Entries) (at : ℕ) → length es ≤ at → IsSearchedTo p k P es at → IsTried p k es
+  tried_all P es at all s = record { begins = s.begins; tried = subst (AreTried p k es) (take_all at es all) s.tried }
+
+  pub visited_all : (P : Passed → Type 0) (es : Entries) (at : ℕ) → length es ≤ at → IsSearchedTo p k P es at → Each P es
+  visited_all P es at all s = subst (Each P) (take_all at es all) s.visited
+
+pub searched_all : (p : ProgramTree) (P : Passed → Type 0) (es : Entries) (at : ℕ) → length es ≤ at → IsSearchedTo p states_only P es at → IsClosedAfterSettling p (map state_of es)
+searched_all p P es at all s = whole_by_trying p es (tried_all p states_only P es at all s)
 
 -- what each entry is not, an entry of this configuration is not
-none_in : (p : ProgramTree) (q : Query) (es : Entries) (n : ℕ) (c : Configuration) → Each (λ (e : ℕ × Configuration). IsUnwanted p q e.1) es → IsIn n c es → IsUnwanted p q c
+none_in : (p : ProgramTree) (q : Query) (es : Entries) (n : ℕ) (c : Configuration) → Each (IsPassedOver p q) es → IsIn n c (map state_of es) → IsUnwanted p q c
 none_in p q [] n c h i = absurd i
 none_in p q (e ∷ es) n c h (inl i) = subst (IsUnwanted p q) i.1 h.0
 none_in p q (e ∷ es) n c h (inr i) = none_in p q es n c h.1 i
 
 -- no run leads to what is asked for
-pub never_wanted : (p : ProgramTree) (q : Query) (es : Entries) (at : ℕ) → IsNameless p → length es ≤ at → IsSearchedTo p q es at → (d : Configuration) → IsReached p d
-    → IsUnwanted p q d
+pub never_wanted : (p : ProgramTree) (q : Query) (es : Entries) (at : ℕ) → IsNameless p → length es ≤ at → IsSearchedTo p states_only (IsPassedOver p q) es at → (d : Configuration)
+    → IsReached p d → IsUnwanted p q d
 never_wanted p q es at less all s d reached =
     record {
       not_stuck = λ w. stuck q.all (λ n c i h. (each n c i).not_stuck (record { asked = w.asked; holds = h })) w.holds;
-      not_faulty = λ w. never_faulty_after_settling p es less whole (λ n c i h. (each n c i).not_faulty (record { asked = w.asked; holds = h })) d reached w.holds;
+      not_faulty = λ w. never_faulty_after_settling p (map state_of es) less whole (λ n c i h. (each n c i).not_faulty (record { asked = w.asked; holds = h })) d reached w.holds;
     }
   where
-    whole : IsClosedAfterSettling p es
-    whole = searched_all p q es at all s
+    whole : IsClosedAfterSettling p (map state_of es)
+    whole = searched_all p (IsPassedOver p q) es at all s
 
-    each : (n : ℕ) (c : Configuration) → IsIn n c es → IsUnwanted p q c
-    each n c i = none_in p q es n c (subst (Each (λ (e : ℕ × Configuration). IsUnwanted p q e.1)) (take_all at es all) s.unwanted) i
+    each : (n : ℕ) (c : Configuration) → IsIn n c (map state_of es) → IsUnwanted p q c
+    each n c i = none_in p q es n c (visited_all p states_only (IsPassedOver p q) es at all s) i
 
-    stuck : (b : Bool) → ((n : ℕ) (c : Configuration) → IsIn n c es → ¬ (CountsAsStuck b p c)) → ¬ (CountsAsStuck b p d)
-    stuck false none h = never_stuck_after_settling p es less whole none d reached h
-    stuck true none h = never_unfinished_after_settling p es less whole none d reached h
+    stuck : (b : Bool) → ((n : ℕ) (c : Configuration) → IsIn n c (map state_of es) → ¬ (CountsAsStuck b p c)) → ¬ (CountsAsStuck b p d)
+    stuck false none h = never_stuck_after_settling p (map state_of es) less whole none d reached h
+    stuck true none h = never_unfinished_after_settling p (map state_of es) less whole none d reached h
+
+-- a search for outcomes misses none
+pub whole_by_visits : (p : ProgramTree) (P : Passed → Type 0) (es : Entries) (at : ℕ) → length es ≤ at → IsSearchedTo p with_writes P es at → IsWholeWith p None es
+whole_by_visits p P es at all s = whole_with_writes p es (tried_all p with_writes P es at all s)

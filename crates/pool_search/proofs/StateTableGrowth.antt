@@ -3,12 +3,15 @@ use Rattle.std.proofs.Common.{◌≡◌, refl, sym, ap, ap₂, subst, ◌∙◌,
 use Rattle.std.specs.List.{All}
 use Rattle.std.proofs.lemmas.List.{get_or-take, length-take, take-take}
 use Rattle.std.proofs.lemmas.List.Elements.{All-head, All-tail, All-weaker}
+use Rattle.run_types.specs.declared.types.Item.{Item}
 use Rattle.pool_syntax.specs.Terms.{ProgramTree}
 use Rattle.pool_relation.specs.Action.{Object}
 use Rattle.pool_relation.specs.Configuration.{Configuration}
 use Rattle.pool_semantics.specs.Sound.{Sound}
+use Rattle.search_laws.specs.Outcomes.{Passed}
 use Rattle.pool_search.specs.declared.numbered.Numbered.{Numbered}
-use Rattle.pool_search.specs.Numbers.{no_object, objects_from, queue_messages, numbered, with_next, EntryInvariant}
+use Rattle.pool_search.specs.Numbers.{no_object, objects_from, queue_messages, numbered, passed, EntryInvariant}
+use Rattle.pool_search.specs.VisitedConfigurations.{entry}
 
 pub no_shorter : (xs ys : List Object) → take (length xs) ys ≡ xs → length xs ≤ length ys
 no_shorter xs ys f = omega (arith, length-take (length xs) ys, ap length f)
@@ -46,8 +49,9 @@ kept_still p xs ys e f k = record {
 pub all_still : (p : ProgramTree) (xs ys : List Object) (es : List Numbered) → take (length xs) ys ≡ xs → All (EntryInvariant p xs) es → All (EntryInvariant p ys) es
 all_still p xs ys es f k = All-weaker (EntryInvariant p xs) (EntryInvariant p ys) (λ e. kept_still p xs ys e f) es k
 
-pub list_still : (p : ProgramTree) (xs ys : List Object) (es : List Numbered) → take (length xs) ys ≡ xs → All (EntryInvariant p xs) es
-    → map (with_next ys) es ≡ map (with_next xs) es
-list_still p xs ys [] f k = refl
-list_still p xs ys (e ∷ es) f k =
-    ap₂ (λ (c : Configuration) (l : List (ℕ × Configuration)). (e.next, c) ∷ l) (numbered_still xs ys e f (All-head (EntryInvariant p xs) e es k).within) (list_still p xs ys es f (All-tail (EntryInvariant p xs) e es k))
+pub list_still : (p : ProgramTree) (xs ys : List Object) (ws : List (List Item)) (es : List Numbered) → take (length xs) ys ≡ xs → All (EntryInvariant p xs) es
+    → map (passed ys ws) es ≡ map (passed xs ws) es
+list_still p xs ys ws [] f k = refl
+list_still p xs ys ws (e ∷ es) f k =
+    ap₂ (λ (c : Configuration) (l : List Passed). entry e.next (get_or ws e.written []) c ∷ l) (numbered_still xs ys e f (All-head (EntryInvariant p xs) e es k).within)
+    (list_still p xs ys ws es f (All-tail (EntryInvariant p xs) e es k))

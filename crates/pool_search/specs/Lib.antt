@@ -1,8 +1,13 @@
 -- Believed: what a top call's contract reaches.
 pub mod SearchTargets
+pub mod OutcomeTargets
 -- Internal: what it does not.
 pub mod Numbers
+pub mod WrittenLists
+pub mod WritingsOf
+pub mod Courses
 pub mod VisitedConfigurations
 pub mod SearchAnswers
 pub mod Progress
 pub mod Entries
+pub mod FoundOutcomes

@@ -1,19 +1,30 @@
--- What contracts see of a visited set: its program, and its configurations of the transition relation in order.
+-- What contracts see of a visited set: its program, its lists of items, and its configurations in order.
 use Rattle.std.specs.Prelude.{ℕ, ◌-◌, ◌^◌, ◌≤◌, ◌⊎◌, List, length, map}
 use Rattle.pool_syntax.specs.Terms.{ProgramTree}
 use Rattle.pool_syntax.specs.TreeOf.{program_of}
 use Rattle.pool_relation.specs.Configuration.{Configuration}
+use Rattle.run_types.specs.declared.types.Item.{Item}
+use Rattle.search_laws.specs.Outcomes.{Passed}
 use Rattle.search_states.specs.States.{states}
-use Rattle.pool_search.specs.Numbers.{with_next}
+use Rattle.pool_search.specs.Numbers.{passed}
+use Rattle.pool_search.specs.WritingsOf.{lists_of}
 use Rattle.pool_search.specs.declared.visited.VisitedSet.{VisitedSet}
 
 -- the program
 abbrev pub kept_program : VisitedSet → ProgramTree
 kept_program k = program_of k.program.now
 
--- the configurations in order, each with its next free name
-abbrev pub kept_list : VisitedSet → List (ℕ × Configuration)
-kept_list k = map (with_next (states k.table)) k.entries.items
+-- the lists of items, by their numbers
+abbrev pub kept_lists : VisitedSet → List (List Item)
+kept_lists k = lists_of k.writings
+
+-- the configurations in order, each with its next free name and what was written
+abbrev pub kept_list : VisitedSet → List Passed
+kept_list k = map (passed (states k.table) (kept_lists k)) k.entries.items
+
+-- a configuration with its next free name and what was written
+abbrev pub entry : ℕ → List Item → Configuration → Passed
+entry n w c = record { next = n; items = w; configuration = c }
 
 -- no number is left for an object state or for a configuration
 abbrev pub IsFull : VisitedSet → Type 0

@@ -16,7 +16,7 @@ pub enum Classification {
 }
 
 /// Whether the configuration counts as stuck. `all` also counts each unfinished one.
-fn is_stuck(plain: &Plain<'_>, all: bool) -> bool
+pub fn is_stuck(plain: &Plain<'_>, all: bool) -> bool
     requires { is_spent plain.now ≡ false }
     ensures yes { result ≡ true → CountsAsStuck all (program_tree plain.now) (configuration_of plain.now) }
     ensures no { result ≡ false → ¬ (CountsAsStuck all (program_tree plain.now) (configuration_of plain.now)) }
@@ -31,7 +31,7 @@ fn is_stuck(plain: &Plain<'_>, all: bool) -> bool
 }
 
 /// Whether an object met a run-time error.
-fn is_faulty(plain: &Plain<'_>) -> bool
+pub fn is_faulty(plain: &Plain<'_>) -> bool
     ensures yes { result ≡ true → IsFaulty (configuration_of plain.now) }
     ensures no { result ≡ false → ¬ (IsFaulty (configuration_of plain.now)) }
 {

@@ -72,13 +72,15 @@ fn same_numbers(left: &[u32], right: &[u32]) -> bool
     left == right
 }
 
-/// Whether two configurations and their next names are the same.
+/// Whether two configurations, their next names and the numbers of what was written are the same.
 pub fn same_numbered(left: &Numbered, right: &Numbered) -> bool
     ensures next { result ≡ true → left.now.next ≡ right.now.next }
+    ensures written { result ≡ true → left.now.written ≡ right.now.written }
     ensures objects { result ≡ true → left.now.objects.items ≡ right.now.objects.items }
     ensures messages { result ≡ true → map queue_messages left.now.queues.items ≡ map queue_messages right.now.queues.items }
 {
     left.next == right.next
+        && left.written == right.written
         && same_numbers(left.objects.as_slice(), right.objects.as_slice())
         && same_queues(left.queues.as_slice(), right.queues.as_slice())
 }
@@ -107,6 +109,7 @@ fn mark_queue(queue: &Queue, mark: &mut FoldHasher) {
 pub fn mark(numbered: &Numbered) -> u64 {
     let mut mark = FoldHasher::default();
     mark.write_u32(numbered.next);
+    mark.write_u32(numbered.written);
     for number in numbered.objects.as_slice() {
         mark.write_u32(*number);
     }

@@ -1,17 +1,21 @@
 //! The visited set of a search, and the expansion of its entries.
-ghost use Rattle.std.specs.Prelude.{◌≡◌, ◌+◌, ◌<◌, ◌≤◌, Ok, Some, IfOk, IfSome, length, slice_get, min, [], true, false};
+ghost use Rattle.std.specs.Prelude.{◌≡◌, ◌+◌, ◌++◌, ◌∷◌, ◌<◌, ◌≤◌, Ok, Some, IfOk, IfSome, get_or, length, slice_get, min, [], true, false};
 ghost use Rattle.pool_relation.specs.Configuration.{Configuration};
 ghost use Rattle.pool_semantics.specs.PlainOf.{configuration_of, program_tree, is_spent};
-ghost use Rattle.reachability.specs.Search.{Settles, after, IsIn};
+ghost use Rattle.reachability.specs.Search.{after};
 ghost use Rattle.reachability.specs.Labels.{labels_to_try};
-ghost use Rattle.search_laws.specs.Tried.{AllLeadInto};
-ghost use Rattle.pool_search.specs.Entries.{entries, searched};
-ghost use Rattle.pool_search.specs.Progress.{Grows, IsSearchedTo, HasTried, HasSearched};
+ghost use Rattle.search_laws.specs.Outcomes.{Passed, IsPassed};
+ghost use Rattle.search_laws.specs.Tried.{AllLeadInto, Follows, states_only};
+ghost use Rattle.pool_search.specs.Courses.{course_of};
+ghost use Rattle.pool_search.specs.Entries.{IsEntryAt, IsPassedOver, entries, lists, searched};
+ghost use Rattle.pool_search.specs.Progress.{AllReached, Grows, IsReachedWith, IsSearchedTo, HasTried, HasSearched};
 
 use crate::classifier::{Classification, judge};
 use crate::queries::Query;
+use crate::scope::{Keeps, Scope};
 use crate::settling::settle;
 use crate::visited::{Entry, VisitedSet};
+use crate::writings::item_of;
 use pool_semantics::{Plain, Refuse};
 use run_types::Label;
 use std::alloc::{AllocError, Global};
@@ -73,6 +77,7 @@ impl<'a> Explored<'a> {
     pub fn make(alloc: Global, plain: &Plain<'a>) -> Result<Explored<'a>, AllocError>
         ensures program { IfOk result (λ e. searched e ≡ program_tree plain.now) }
         ensures none { IfOk result (λ e. entries e ≡ []) }
+        ensures lists { IfOk result (λ e. lists e ≡ [] ∷ []) }
     {
         let kept = VisitedSet::make(alloc, plain)?;
         Ok(Explored {
@@ -88,26 +93,29 @@ impl<'a> Explored<'a> {
         self.kept.len().min(most as usize) as u32
     }
 
-    /// Adds a configuration, unless the set has it. `false` if a bound is met: the set
-    /// is full, or it would have more than `most` entries. An error means out of memory.
+    /// Adds a configuration with the number of what was written, unless the set has it. `false` if a bound is met: the
+    /// set is full, or it would have more than `most` entries. An error means out of memory.
     fn keep(
         &mut self,
         plain: &Plain<'a>,
         next: u32,
+        written: u32,
         origin: Origin,
-        most: u32,
+        scope: Scope,
     ) -> Result<bool, AllocError>
         requires fresh { is_spent plain.now ≡ false }
         requires program { program_tree plain.now ≡ searched self.old }
+        requires named { written < length (lists self.old) }
+        requires reached { IsReachedWith (searched self.old) (course_of scope.keeps) (get_or (lists self.old) written []) (configuration_of plain.now) }
         ensures program { searched self.new ≡ searched self.old }
-        ensures grows { IfOk result (λ b. b ≡ true → Grows most (entries self.old) (entries self.new)) }
-        ensures is_in { IfOk result (λ b. b ≡ true → IsIn next (configuration_of plain.now) (entries self.new)) }
+        ensures grows { IfOk result (λ b. b ≡ true → Grows (searched self.old) (course_of scope.keeps) scope.most (entries self.old) (entries self.new)) }
+        ensures is_in { IfOk result (λ b. b ≡ true → IsPassed next (get_or (lists self.old) written []) (configuration_of plain.now) (entries self.new)) }
     {
-        match self.kept.keep(plain, next)? {
+        match self.kept.keep(plain, next, written)? {
             None => Ok(false),
             Some(Entry::Seen(_)) => Ok(true),
             Some(Entry::Added(number)) => {
-                if number >= most {
+                if number >= scope.most {
                     return Ok(false);
                 }
                 self.origins.push(origin)?;
@@ -121,20 +129,45 @@ impl<'a> Explored<'a> {
         &mut self,
         plain: &mut Plain<'a>,
         next: u32,
+        written: u32,
         origin: Origin,
-        most: u32,
+        scope: Scope,
     ) -> Result<bool, AllocError>
         requires fresh { is_spent plain.old ≡ false }
         requires program { program_tree plain.old ≡ searched self.old }
+        requires named { written < length (lists self.old) }
+        requires reached { IsReachedWith (searched self.old) (course_of scope.keeps) (get_or (lists self.old) written []) (configuration_of plain.old) }
         ensures program { searched self.new ≡ searched self.old }
-        ensures grows { IfOk result (λ b. b ≡ true → Grows most (entries self.old) (entries self.new)) }
+        ensures grows { IfOk result (λ b. b ≡ true → Grows (searched self.old) (course_of scope.keeps) scope.most (entries self.old) (entries self.new)) }
         ensures leads { IfOk result (λ b. b ≡ true
-            → (e : Configuration) × Settles (searched self.old) (configuration_of plain.old) e × IsIn next e (entries self.new)) }
+            → (e : Configuration) × Follows (searched self.old) (course_of scope.keeps) (configuration_of plain.old) e × IsPassed next (get_or (lists self.old) written []) e (entries self.new)) }
     {
-        if !settle(plain)? {
+        if !settle(plain, scope.keeps)? {
             return Ok(false);
         }
-        self.keep(plain, next, origin, most)
+        self.keep(plain, next, written, origin, scope)
+    }
+
+    /// The number of what was written after this label, if the search keeps it. None if no number of 32 bits is left.
+    /// An error means out of memory.
+    fn written_after(
+        &mut self,
+        keeps: Keeps,
+        before: u32,
+        label: &Label,
+    ) -> Result<Option<u32>, AllocError>
+        requires { before < length (lists self.old) }
+        ensures program { searched self.new ≡ searched self.old }
+        ensures same { entries self.new ≡ entries self.old }
+        ensures number { IfOk result (λ o. IfSome o (λ n. (get_or (lists self.new) n [] ≡ get_or (lists self.old) before [] ++ (course_of keeps).keeps label.now) × (n < length (lists self.new)))) }
+    {
+        match keeps {
+            Keeps::States => Ok(Some(before)),
+            Keeps::Writes => match item_of(label) {
+                Some(item) => self.kept.write(before, item),
+                None => Ok(Some(before)),
+            },
+        }
     }
 
     /// Tries a label of the entry `origin.from`, where the stepper is, and returns the stepper there.
@@ -145,14 +178,15 @@ impl<'a> Explored<'a> {
         next: u32,
         label: &Label,
         origin: Origin,
-        most: u32,
+        scope: Scope,
     ) -> Result<bool, AllocError>
         requires fresh { is_spent plain.old ≡ false }
         requires program { program_tree plain.old ≡ searched self.old }
-        requires there { slice_get (entries self.old) origin.from ≡ Some (next, configuration_of plain.old) }
+        requires there { IsEntryAt (entries self.old) origin.from next (configuration_of plain.old) }
+        requires reached { AllReached (searched self.old) (course_of scope.keeps) (entries self.old) }
         ensures program { searched self.new ≡ searched self.old }
-        ensures tried { IfOk result (λ b. b ≡ true
-            → HasTried (searched self.old) most (entries self.old) (entries self.new) next (configuration_of plain.old) label.now) }
+        ensures tried { IfOk result (λ b. b ≡ true → (e : Passed) → slice_get (entries self.old) origin.from ≡ Some e
+            → HasTried (searched self.old) (course_of scope.keeps) scope.most (entries self.old) (entries self.new) e label.now) }
         ensures again { IfOk result (λ b. b ≡ true → configuration_of plain.new ≡ configuration_of plain.old) }
         ensures same_program { IfOk result (λ b. b ≡ true → program_tree plain.new ≡ program_tree plain.old) }
         ensures fresh { IfOk result (λ b. b ≡ true → is_spent plain.new ≡ false) }
@@ -165,7 +199,11 @@ impl<'a> Explored<'a> {
         let Some(after) = name_after(next, label) else {
             return Ok(false);
         };
-        if !self.settle_and_keep(plain, after, origin, most)? {
+        let before = self.kept.written(origin.from as usize);
+        let Some(written) = self.written_after(scope.keeps, before, label)? else {
+            return Ok(false);
+        };
+        if !self.settle_and_keep(plain, after, written, origin, scope)? {
             return Ok(false);
         }
         *plain = self.kept.configuration(origin.from as usize)?;
@@ -179,21 +217,23 @@ impl<'a> Explored<'a> {
         at: u32,
         next: u32,
         labels: &[Label],
-        most: u32,
+        scope: Scope,
     ) -> Result<bool, AllocError>
         requires fresh { is_spent plain.old ≡ false }
         requires program { program_tree plain.old ≡ searched self.old }
-        requires there { slice_get (entries self.old) at ≡ Some (next, configuration_of plain.old) }
+        requires there { IsEntryAt (entries self.old) at next (configuration_of plain.old) }
+        requires reached { AllReached (searched self.old) (course_of scope.keeps) (entries self.old) }
         ensures program { searched self.new ≡ searched self.old }
-        ensures grows { IfOk result (λ b. b ≡ true → Grows most (entries self.old) (entries self.new)) }
-        ensures tried { IfOk result (λ b. b ≡ true → AllLeadInto (searched self.old) (entries self.new) next (configuration_of plain.old) labels.now) }
+        ensures grows { IfOk result (λ b. b ≡ true → Grows (searched self.old) (course_of scope.keeps) scope.most (entries self.old) (entries self.new)) }
+        ensures tried { IfOk result (λ b. b ≡ true → (e : Passed) → slice_get (entries self.old) at ≡ Some e
+            → AllLeadInto (searched self.old) (course_of scope.keeps) (entries self.new) e.next e.items e.configuration labels.now) }
     {
         for (place, label) in labels.iter().enumerate() {
             let origin = Origin {
                 from: at,
                 label: number(place),
             };
-            match self.follow(plain, next, label, origin, most) {
+            match self.follow(plain, next, label, origin, scope) {
                 Ok(true) => {}
                 Ok(false) => return Ok(false),
                 Err(_) => return Err(AllocError),
@@ -203,32 +243,35 @@ impl<'a> Explored<'a> {
     }
 
     /// Tries all labels of an entry, where the stepper is. `false` if a bound is met. An error means out of memory.
-    fn expand(
+    pub fn expand(
         &mut self,
         alloc: Global,
         plain: &mut Plain<'a>,
         at: u32,
         next: u32,
-        most: u32,
+        scope: Scope,
     ) -> Result<bool, AllocError>
         requires fresh { is_spent plain.old ≡ false }
         requires program { program_tree plain.old ≡ searched self.old }
-        requires there { slice_get (entries self.old) at ≡ Some (next, configuration_of plain.old) }
+        requires there { IsEntryAt (entries self.old) at next (configuration_of plain.old) }
+        requires reached { AllReached (searched self.old) (course_of scope.keeps) (entries self.old) }
         ensures program { searched self.new ≡ searched self.old }
-        ensures grows { IfOk result (λ b. b ≡ true → Grows most (entries self.old) (entries self.new)) }
-        ensures tried { IfOk result (λ b. b ≡ true
-            → AllLeadInto (searched self.old) (entries self.new) next (configuration_of plain.old) (labels_to_try (searched self.old) next (configuration_of plain.old))) }
+        ensures grows { IfOk result (λ b. b ≡ true → Grows (searched self.old) (course_of scope.keeps) scope.most (entries self.old) (entries self.new)) }
+        ensures tried { IfOk result (λ b. b ≡ true → (e : Passed) → slice_get (entries self.old) at ≡ Some e
+            → AllLeadInto (searched self.old) (course_of scope.keeps) (entries self.new) e.next e.items e.configuration (labels_to_try (searched self.old) e.next e.configuration)) }
     {
         let mut labels = Vec::new(alloc);
         plain.labels(next, &mut labels)?;
-        self.try_all(plain, at, next, &labels, most)
+        self.try_all(plain, at, next, &labels, scope)
     }
 
     /// Visits an entry: tries all its labels, unless the query looks for it. An error means out of memory.
     fn visit(&mut self, alloc: Global, at: u32, question: &Query) -> Result<Visit, AllocError>
-        requires { at < length (entries self.old) }
+        requires exists { at < length (entries self.old) }
+        requires reached { AllReached (searched self.old) states_only (entries self.old) }
         ensures program { searched self.new ≡ searched self.old }
-        ensures done { result ≡ Ok Visit.Done → HasSearched (searched self.old) question.now (entries self.old) (entries self.new) at }
+        ensures done { result ≡ Ok Visit.Done
+            → HasSearched (searched self.old) states_only question.now.most (IsPassedOver (searched self.old) question.now) (entries self.old) (entries self.new) at }
     {
         let next = self.kept.next_name(at as usize);
         let mut plain = self.kept.configuration(at as usize)?;
@@ -236,7 +279,11 @@ impl<'a> Explored<'a> {
             Classification::Neither => {}
             Classification::Stuck | Classification::Fault => return Ok(Visit::Shown),
         }
-        if self.expand(alloc, &mut plain, at, next, question.most)? {
+        let scope = Scope {
+            keeps: Keeps::States,
+            most: question.most,
+        };
+        if self.expand(alloc, &mut plain, at, next, scope)? {
             return Ok(Visit::Done);
         }
         Ok(Visit::Over)
@@ -245,10 +292,10 @@ impl<'a> Explored<'a> {
     /// Visits the entries in order, and then those that were added meanwhile. This is breadth-first.
     /// Requires at most `most` entries, the start among them. An error means out of memory.
     pub fn look(&mut self, alloc: Global, question: &Query) -> Result<RunEnd, AllocError>
-        requires begun { IsSearchedTo (searched self.old) question.now (entries self.old) 0 }
+        requires begun { IsSearchedTo (searched self.old) states_only (IsPassedOver (searched self.old) question.now) (entries self.old) 0 }
         requires within { length (entries self.old) ≤ question.now.most }
         ensures program { searched self.new ≡ searched self.old }
-        ensures whole { result ≡ Ok RunEnd.Whole → IsSearchedTo (searched self.old) question.now (entries self.new) (length (entries self.new)) }
+        ensures whole { result ≡ Ok RunEnd.Whole → IsSearchedTo (searched self.old) states_only (IsPassedOver (searched self.old) question.now) (entries self.new) (length (entries self.new)) }
         ensures within { result ≡ Ok RunEnd.Whole → length (entries self.new) ≤ question.now.most }
     {
         let mut at = 0;

@@ -6,17 +6,22 @@
 #![tactic(auto)]
 
 mod classifier;
+mod ends;
 mod equality;
 mod explored;
 mod made;
 mod numbered;
+mod outcomes;
 mod queries;
 mod restored;
 mod retracing;
+mod scope;
 mod searching;
 mod settling;
 mod visited;
+mod writings;
 
+pub use outcomes::{EndKind, Outcome, OutcomeRun, Outcomes, all_outcomes, outcome_run};
 pub use queries::{Query, SearchResult, Target};
 pub use searching::search;
 pub use visited::{Entry, VisitedSet};

@@ -9,11 +9,12 @@ pub struct Queue {
     pub mails: Vec<Mail>,
 }
 
-/// A configuration and the next free name. `objects` has the number
+/// A configuration, the next free name, and the number of what was written. `objects` has the number
 /// of each object's state, in the order of the names 0, 1, 2, ..
 #[derive(Drop)]
 pub struct Numbered {
     pub next: u32,
+    pub written: u32,
     pub objects: Vec<u32>,
     pub queues: Vec<Queue>,
 }

@@ -9,6 +9,7 @@ ghost use Rattle.pool_search.specs.SearchAnswers.{IsAnswer};
 use crate::classifier::{Classification, judge};
 use crate::explored::{Origin, name_after};
 use crate::queries::{Query, SearchResult};
+use crate::scope::Keeps;
 use crate::settling::settle_shown;
 use class_check::Checked;
 use pool_semantics::{Plain, Refuse};
@@ -33,9 +34,14 @@ pub fn way_to(alloc: Global, origins: &[Origin], at: u32) -> Result<Vec<u32>, Al
     Ok(way)
 }
 
-/// Applies a label, and then all transitions that need no choice. Appends each label to `shown`.
+/// Applies a label, and then all transitions that the search follows. Appends each label to `shown`.
 /// `false` if the label is impossible or settling meets its bound. An error means out of memory.
-fn pass(plain: &mut Plain<'_>, label: &Label, shown: &mut Vec<Label>) -> Result<bool, AllocError>
+fn pass(
+    plain: &mut Plain<'_>,
+    keeps: Keeps,
+    label: &Label,
+    shown: &mut Vec<Label>,
+) -> Result<bool, AllocError>
     requires { is_spent plain.old ≡ false }
     ensures program { program_tree plain.new ≡ program_tree plain.old }
     ensures fresh { IfOk result (λ _. is_spent plain.new ≡ false) }
@@ -48,7 +54,7 @@ fn pass(plain: &mut Plain<'_>, label: &Label, shown: &mut Vec<Label>) -> Result<
         Err(Refuse::Memory) => return Err(AllocError),
     }
     shown.push(*label)?;
-    settle_shown(plain, shown)
+    settle_shown(plain, keeps, shown)
 }
 
 /// Applies the label at this index among those to try, and settles. Returns the next free name.
@@ -56,6 +62,7 @@ fn pass(plain: &mut Plain<'_>, label: &Label, shown: &mut Vec<Label>) -> Result<
 fn pass_at(
     alloc: Global,
     plain: &mut Plain<'_>,
+    keeps: Keeps,
     next: u32,
     place: u32,
     shown: &mut Vec<Label>,
@@ -71,7 +78,7 @@ fn pass_at(
     let Some(label) = labels.get(place as usize) else {
         return Ok(None);
     };
-    if !pass(plain, label, shown)? {
+    if !pass(plain, keeps, label, shown)? {
         return Ok(None);
     }
     Ok(name_after(next, label))
@@ -79,9 +86,10 @@ fn pass_at(
 
 /// Repeats a run from the start. `way` has the indexes of its labels, the last first.
 /// `false` if a label is impossible or a bound is met. An error means out of memory.
-fn retrace(
+pub fn retrace(
     alloc: Global,
     plain: &mut Plain<'_>,
+    keeps: Keeps,
     way: &[u32],
     shown: &mut Vec<Label>,
 ) -> Result<bool, AllocError>
@@ -91,12 +99,12 @@ fn retrace(
     ensures leads { IfOk result (λ _. (c : Configuration) → run (program_tree plain.old) c shown.old.items ≡ Some (configuration_of plain.old)
         → run (program_tree plain.old) c shown.new.items ≡ Some (configuration_of plain.new)) }
 {
-    if !settle_shown(plain, shown)? {
+    if !settle_shown(plain, keeps, shown)? {
         return Ok(false);
     }
     let mut next = 1;
     for place in way.iter().rev() {
-        match pass_at(alloc, plain, next, *place, shown) {
+        match pass_at(alloc, plain, keeps, next, *place, shown) {
             Ok(Some(after)) => next = after,
             Ok(None) => return Ok(false),
             Err(_) => return Err(AllocError),
@@ -117,7 +125,7 @@ pub fn show(
 {
     let mut plain = Plain::make(alloc, program, 0)?;
     let mut shown = Vec::new(alloc);
-    if !retrace(alloc, &mut plain, way, &mut shown)? {
+    if !retrace(alloc, &mut plain, Keeps::States, way, &mut shown)? {
         return Ok(None);
     }
     Ok(match judge(&plain, question) {

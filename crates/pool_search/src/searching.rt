@@ -4,7 +4,9 @@ ghost use Rattle.std.specs.Global.{Global};
 ghost use Rattle.std.specs.declared.vec.Vec.{Vec};
 ghost use Rattle.pool_syntax.specs.TreeOf.{program_of};
 ghost use Rattle.run_types.specs.declared.types.Label.{Label};
-ghost use Rattle.pool_search.specs.Entries.{entries, searched};
+ghost use Rattle.search_laws.specs.Tried.{states_only};
+ghost use Rattle.pool_search.specs.Courses.{course_of};
+ghost use Rattle.pool_search.specs.Entries.{IsPassedOver, entries, searched};
 ghost use Rattle.pool_search.specs.Progress.{IsSearchedTo};
 ghost use Rattle.pool_search.specs.SearchTargets.{LeadsTo, IsWantedStuck, IsWantedFault, IsFinite};
 ghost use Rattle.pool_search.specs.SearchAnswers.{IsAnswer};
@@ -13,24 +15,25 @@ ghost use Rattle.pool_search.specs.declared.queries.Query.{Query};
 use crate::explored::{Explored, Origin, RunEnd};
 use crate::queries::{Query, SearchResult};
 use crate::retracing::{show, way_to};
+use crate::scope::{Keeps, Scope};
 use class_check::Checked;
 use pool_semantics::Plain;
 use std::alloc::{AllocError, Global};
 
 /// Settles the start and keeps it. None if a bound is met. An error means out of memory.
-fn begin<'a>(
+pub fn begin<'a>(
     alloc: Global,
     program: &Checked<'a>,
-    most: u32,
+    scope: Scope,
 ) -> Result<Option<Explored<'a>>, AllocError>
     ensures program { IfOk result (λ r. IfSome r (λ e. searched e ≡ program_of program.now.program.now)) }
-    ensures begun { IfOk result (λ r. IfSome r (λ e. (q : Query) → IsSearchedTo (searched e) q (entries e) 0)) }
-    ensures within { IfOk result (λ r. IfSome r (λ e. length (entries e) ≤ most)) }
+    ensures begun { IfOk result (λ r. IfSome r (λ e. IsSearchedTo (searched e) (course_of scope.keeps) (λ _. Unit {0}) (entries e) 0)) }
+    ensures within { IfOk result (λ r. IfSome r (λ e. length (entries e) ≤ scope.most)) }
 {
     let mut plain = Plain::make(alloc, program, 0)?;
     let mut explored = Explored::make(alloc, &plain)?;
     let origin = Origin { from: 0, label: 0 };
-    if !explored.settle_and_keep(&mut plain, 1, origin, most)? {
+    if !explored.settle_and_keep(&mut plain, 1, 0, origin, scope)? {
         return Ok(None);
     }
     Ok(Some(explored))
@@ -44,7 +47,7 @@ fn answer<'a>(
     question: &Query,
 ) -> Result<SearchResult, AllocError>
     requires program { searched explored.old ≡ program_of program.now.program.now }
-    requires begun { IsSearchedTo (searched explored.old) question.now (entries explored.old) 0 }
+    requires begun { IsSearchedTo (searched explored.old) states_only (IsPassedOver (searched explored.old) question.now) (entries explored.old) 0 }
     requires within { length (entries explored.old) ≤ question.now.most }
     ensures { IfOk result (λ f. IsAnswer (program_of program.now.program.now) question.now f) }
 {
@@ -76,7 +79,11 @@ pub fn search(
     ensures finite { (k : ℕ) → result ≡ Ok (SearchResult.Finite k) → IsFinite (program_of program.now.program.now) question.now k }
     ensures over { (k : ℕ) → result ≡ Ok (SearchResult.Over k) → k ≤ question.now.most }
 {
-    let Some(mut explored) = begin(alloc, program, question.most)? else {
+    let scope = Scope {
+        keeps: Keeps::States,
+        most: question.most,
+    };
+    let Some(mut explored) = begin(alloc, program, scope)? else {
         return Ok(SearchResult::Over(0));
     };
     answer(alloc, program, &mut explored, question)

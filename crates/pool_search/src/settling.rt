@@ -3,8 +3,10 @@ ghost use Rattle.std.specs.Prelude.{◌≡◌, Some, IfOk, IfSome, IfNone, true,
 ghost use Rattle.pool_relation.specs.Configuration.{Configuration};
 ghost use Rattle.pool_relation.specs.Transition.{transition, run};
 ghost use Rattle.pool_semantics.specs.PlainOf.{configuration_of, program_tree, is_spent};
-ghost use Rattle.reachability.specs.Search.{needs_no_choice, Settles};
+ghost use Rattle.search_laws.specs.Tried.{Follows};
+ghost use Rattle.pool_search.specs.Courses.{course_of};
 
+use crate::scope::Keeps;
 use pool_semantics::{Plain, Refuse};
 use run_types::Label;
 use std::alloc::AllocError;
@@ -12,17 +14,29 @@ use std::alloc::AllocError;
 /// The largest number of transitions that settling makes. Without a bound, an endless loop of a program would not end.
 pub const SETTLE: u32 = 1_000_000;
 
-/// Makes one transition that needs no choice, and returns its
+/// A possible transition that the search follows without keeping the configurations between. None if there is none.
+fn to_follow(plain: &Plain<'_>, keeps: Keeps) -> Option<Label>
+    requires { is_spent plain.now ≡ false }
+    ensures follows { IfSome result (λ l. (course_of keeps).follows l ≡ true) }
+    ensures possible { IfSome result (λ l. (d : Configuration) × (transition (program_tree plain.now) (configuration_of plain.now) l ≡ Some d)) }
+{
+    match keeps {
+        Keeps::States => plain.without_choice(),
+        Keeps::Writes => plain.without_write(),
+    }
+}
+
+/// Makes one transition that the search follows, and returns its
 /// label. None if there is none. An error means out of memory.
-fn settle_once(plain: &mut Plain<'_>) -> Result<Option<Label>, AllocError>
+fn settle_once(plain: &mut Plain<'_>, keeps: Keeps) -> Result<Option<Label>, AllocError>
     requires { is_spent plain.old ≡ false }
     ensures program { program_tree plain.new ≡ program_tree plain.old }
     ensures fresh { IfOk result (λ _. is_spent plain.new ≡ false) }
-    ensures free { IfOk result (λ r. IfSome r (λ l. needs_no_choice l ≡ true)) }
+    ensures follows { IfOk result (λ r. IfSome r (λ l. (course_of keeps).follows l ≡ true)) }
     ensures made { IfOk result (λ r. IfSome r (λ l. transition (program_tree plain.old) (configuration_of plain.old) l ≡ Some (configuration_of plain.new))) }
     ensures same { IfOk result (λ r. IfNone r (configuration_of plain.new ≡ configuration_of plain.old)) }
 {
-    let Some(label) = plain.without_choice() else {
+    let Some(label) = to_follow(plain, keeps) else {
         return Ok(None);
     };
     match plain.apply(&label) {
@@ -32,16 +46,16 @@ fn settle_once(plain: &mut Plain<'_>) -> Result<Option<Label>, AllocError>
     }
 }
 
-/// Makes transitions that need no choice until none is left. `false` after 1,000,000 of them.
+/// Makes transitions that the search follows until none is left. `false` after 1,000,000 of them.
 /// An error means out of memory.
-pub fn settle(plain: &mut Plain<'_>) -> Result<bool, AllocError>
+pub fn settle(plain: &mut Plain<'_>, keeps: Keeps) -> Result<bool, AllocError>
     requires { is_spent plain.old ≡ false }
     ensures program { program_tree plain.new ≡ program_tree plain.old }
     ensures fresh { IfOk result (λ _. is_spent plain.new ≡ false) }
-    ensures settles { IfOk result (λ _. Settles (program_tree plain.old) (configuration_of plain.old) (configuration_of plain.new)) }
+    ensures follows { IfOk result (λ _. Follows (program_tree plain.old) (course_of keeps) (configuration_of plain.old) (configuration_of plain.new)) }
 {
     for _made in 0..SETTLE {
-        match settle_once(plain) {
+        match settle_once(plain, keeps) {
             Ok(Some(_)) => {}
             Ok(None) => return Ok(true),
             Err(_) => return Err(AllocError),
@@ -51,7 +65,11 @@ pub fn settle(plain: &mut Plain<'_>) -> Result<bool, AllocError>
 }
 
 /// Settles in the same way, and appends each label to `shown`.
-pub fn settle_shown(plain: &mut Plain<'_>, shown: &mut Vec<Label>) -> Result<bool, AllocError>
+pub fn settle_shown(
+    plain: &mut Plain<'_>,
+    keeps: Keeps,
+    shown: &mut Vec<Label>,
+) -> Result<bool, AllocError>
     requires { is_spent plain.old ≡ false }
     ensures program { program_tree plain.new ≡ program_tree plain.old }
     ensures fresh { IfOk result (λ _. is_spent plain.new ≡ false) }
@@ -59,7 +77,7 @@ pub fn settle_shown(plain: &mut Plain<'_>, shown: &mut Vec<Label>) -> Result<boo
         → run (program_tree plain.old) c shown.new.items ≡ Some (configuration_of plain.new)) }
 {
     for _made in 0..SETTLE {
-        match settle_once(plain) {
+        match settle_once(plain, keeps) {
             Ok(Some(label)) => shown.push(label)?,
             Ok(None) => return Ok(true),
             Err(_) => return Err(AllocError),

@@ -3,14 +3,17 @@ ghost use Rattle.std.specs.Prelude.{◌≡◌};
 ghost use Rattle.std.specs.List.{All};
 ghost use Rattle.pool_syntax.specs.TreeOf.{program_of};
 ghost use Rattle.search_states.specs.States.{states};
-ghost use Rattle.pool_search.specs.Numbers.{EntryInvariant};
+ghost use Rattle.pool_search.specs.Numbers.{EntryInvariant, IsNamed};
+ghost use Rattle.pool_search.specs.WritingsOf.{lists_of};
 
 use crate::equality::{mark, same_numbered};
 use crate::made::{numbers_of, queues_of};
 use crate::numbered::Numbered;
 use crate::restored::{messages_at, objects_at};
+use crate::writings::Writings;
 use pool_semantics::{Plain, State};
 use pool_syntax::Program;
+use run_types::Item;
 use search_states::StateTable;
 use std::alloc::{AllocError, Global};
 use std::collections::{BTreeMap, HashMap};
@@ -23,7 +26,8 @@ pub enum Entry {
     Added(u32),
 }
 
-/// Configurations of one program, each with its next free name. `latest` has the last one of each hash.
+/// Configurations of one program, each with its next free name and what was written. `latest` has the last one of each
+/// hash.
 /// At most 2^32 configurations and 2^32 - 1 object states fit. A
 /// configuration can be in the set twice after a collision of hashes.
 #[derive(Drop)]
@@ -31,30 +35,34 @@ pub struct VisitedSet<'a> {
     alloc: Global,
     program: &'a Program,
     table: StateTable<'a>,
+    writings: Writings,
     entries: Vec<Numbered>,
     latest: HashMap<u64, u32>,
     ghost kept: { All (EntryInvariant (program_of program.now) (states table)) entries.items },
+    ghost named: { All (IsNamed (lists_of writings)) entries.items },
 }
 
 impl<'a> VisitedSet<'a> {
-    ghost use Rattle.std.specs.Prelude.{◌<◌, ◌++◌, [], ◌∷◌, ℕ, Ok, None, Some, IfOk, IfSome, OnOk, OnErr, IsTrue, length, slice_get, false};
+    ghost use Rattle.std.specs.Prelude.{◌<◌, ◌++◌, [], ◌∷◌, ℕ, Ok, None, Some, IfOk, IfSome, get_or, OnOk, OnErr, IsTrue, length, slice_get, false};
     ghost use Rattle.std.specs.Ordering.{nat_cmp};
     ghost use Rattle.std.specs.FinMap.Entries.{is_sorted};
     ghost use Rattle.stepper_objects.specs.ObjectStates.{things};
     ghost use Rattle.pool_semantics.specs.PlainOf.{configuration_of, program_tree, is_spent};
     ghost use Rattle.reachability.specs.Search.{IsInOrder};
-    ghost use Rattle.pool_search.specs.Numbers.{AreNamedFrom, numbered, objects_from};
-    ghost use Rattle.pool_search.specs.VisitedConfigurations.{IsFull, kept_list, kept_program};
+    ghost use Rattle.pool_search.specs.Numbers.{AreNamedFrom, passed, objects_from};
+    ghost use Rattle.pool_search.specs.VisitedConfigurations.{IsFull, entry, kept_list, kept_lists, kept_program};
 
     /// An empty set for the program of `plain`.
     pub fn make(alloc: Global, plain: &Plain<'a>) -> Result<VisitedSet<'a>, AllocError>
         ensures list { IfOk result (λ k. kept_list k ≡ []) }
+        ensures lists { IfOk result (λ k. kept_lists k ≡ [] ∷ []) }
         ensures program { IfOk result (λ k. kept_program k ≡ program_tree plain.now) }
     {
         Ok(VisitedSet {
             alloc,
             program: plain.state().program,
             table: StateTable::make(alloc),
+            writings: Writings::make(alloc),
             entries: Vec::new(alloc),
             latest: HashMap::new(alloc),
         })
@@ -70,15 +78,43 @@ impl<'a> VisitedSet<'a> {
     /// The next free name of the configuration at this index.
     pub fn next_name(&self, at: usize) -> u32
         requires { at < length (kept_list self.now) }
-        ensures { IfSome (slice_get (kept_list self.now) at) (λ e. result ≡ e.0) }
+        ensures { IfSome (slice_get (kept_list self.now) at) (λ e. result ≡ e.next) }
     {
         self.entries[at].next
+    }
+
+    /// The number of what was written before the configuration at this index.
+    pub fn written(&self, at: usize) -> u32
+        requires { at < length (kept_list self.now) }
+        ensures list { IfSome (slice_get (kept_list self.now) at) (λ e. get_or (kept_lists self.now) result [] ≡ e.items) }
+        ensures within { result < length (kept_lists self.now) }
+    {
+        self.entries[at].written
+    }
+
+    /// What was written before the configuration at this index. An error means out of memory.
+    pub fn items(&self, at: usize) -> Result<Vec<Item>, AllocError>
+        requires { at < length (kept_list self.now) }
+        ensures { IfOk result (λ v. IfSome (slice_get (kept_list self.now) at) (λ e. v.items ≡ e.items)) }
+    {
+        self.writings.items(self.alloc, self.entries[at].written)
+    }
+
+    /// The number of a list with the item after it. The list is added unless it was found. None if there are 2^32
+    /// lists. An error means out of memory.
+    pub fn write(&mut self, before: u32, item: Item) -> Result<Option<u32>, AllocError>
+        requires { before < length (kept_lists self.old) }
+        ensures list { kept_list self.new ≡ kept_list self.old }
+        ensures program { kept_program self.new ≡ kept_program self.old }
+        ensures number { IfOk result (λ o. IfSome o (λ n. (get_or (kept_lists self.new) n [] ≡ get_or (kept_lists self.old) before [] ++ item ∷ []) × (n < length (kept_lists self.new)))) }
+    {
+        self.writings.write(before, item)
     }
 
     /// The configuration at this index. An error means out of memory.
     pub fn configuration(&self, at: usize) -> Result<Plain<'a>, AllocError>
         requires { at < length (kept_list self.now) }
-        ensures configuration { IfOk result (λ s. IfSome (slice_get (kept_list self.now) at) (λ e. configuration_of s ≡ e.1)) }
+        ensures configuration { IfOk result (λ s. IfSome (slice_get (kept_list self.now) at) (λ e. configuration_of s ≡ e.configuration)) }
         ensures program { IfOk result (λ s. program_tree s ≡ kept_program self.now) }
         ensures fresh { IfOk result (λ s. is_spent s ≡ false) }
     {
@@ -95,7 +131,7 @@ impl<'a> VisitedSet<'a> {
 
     /// The index of this configuration, if it is the last one of its hash.
     fn seen(&self, mark: u64, found: &Numbered) -> Option<u32>
-        ensures { IfSome result (λ i. slice_get (kept_list self.now) i ≡ Some (found.now.next, numbered (states self.now.table) found.now)) }
+        ensures { IfSome result (λ i. slice_get (kept_list self.now) i ≡ Some (passed (states self.now.table) (kept_lists self.now) found.now)) }
     {
         let at = *self.latest.get(&mark)?;
         let entry = self.entries.as_slice().get(at as usize)?;
@@ -109,12 +145,14 @@ impl<'a> VisitedSet<'a> {
     /// Adds a configuration, and returns its index. None if the
     /// set has 2^32 configurations. An error means out of memory.
     fn add(&mut self, mark: u64, found: Numbered) -> Result<Option<u32>, AllocError>
-        requires { EntryInvariant (program_of self.old.program.now) (states self.old.table) found }
-        ensures added { IfOk result (λ o. IfSome o (λ i. (kept_list self.new ≡ kept_list self.old ++ (found.next, numbered (states self.old.table) found) ∷ []) × (i ≡ length (kept_list self.old)))) }
+        requires kept { EntryInvariant (program_of self.old.program.now) (states self.old.table) found }
+        requires named { IsNamed (kept_lists self.old) found }
+        ensures added { IfOk result (λ o. IfSome o (λ i. (kept_list self.new ≡ kept_list self.old ++ passed (states self.old.table) (kept_lists self.old) found ∷ []) × (i ≡ length (kept_list self.old)))) }
         ensures none { result ≡ Ok None → kept_list self.new ≡ kept_list self.old }
         ensures full { result ≡ Ok None → IsFull self.new }
         ensures error { OnErr result (kept_list self.new ≡ kept_list self.old) }
         ensures program { self.new.program ≡ self.old.program }
+        ensures lists { kept_lists self.new ≡ kept_lists self.old }
     {
         let Ok(at) = u32::try_from(self.entries.len()) else {
             return Ok(None);
@@ -131,6 +169,7 @@ impl<'a> VisitedSet<'a> {
         objects: &BTreeMap<u32, ObjectState<'a>>,
     ) -> Result<Option<Vec<u32>>, AllocError>
         ensures list { kept_list self.new ≡ kept_list self.old }
+        ensures lists { kept_lists self.new ≡ kept_lists self.old }
         ensures program { self.new.program ≡ self.old.program }
         ensures within { IfOk result (λ o. IfSome o (λ v. All (λ n. n < length (states self.new.table)) v.items)) }
         ensures objects { IfOk result (λ o. IfSome o (λ v. objects_from 0 (states self.new.table) v.items ≡ things objects.now.entries)) }
@@ -140,18 +179,26 @@ impl<'a> VisitedSet<'a> {
         numbers_of(self.alloc, &mut self.table, objects)
     }
 
-    /// Looks a configuration up, and adds it if it was not found. Requires that it is one of the set's program.
+    /// Looks a configuration up, with what was written, and adds it if it was not found. Requires that it is one of the
+    /// set's program, and the number of a list.
     /// None if the set or the table of object states is full, or if the
     /// objects are not named 0, 1, 2, .. An error means out of memory.
-    pub fn keep(&mut self, plain: &Plain<'a>, next: u32) -> Result<Option<Entry>, AllocError>
+    pub fn keep(
+        &mut self,
+        plain: &Plain<'a>,
+        next: u32,
+        written: u32,
+    ) -> Result<Option<Entry>, AllocError>
         requires fresh { is_spent plain.now ≡ false }
         requires program { program_tree plain.now ≡ kept_program self.old }
-        ensures seen { (i : ℕ) → result ≡ Ok (Some (Entry.Seen i)) → (kept_list self.new ≡ kept_list self.old) × (slice_get (kept_list self.old) i ≡ Some (next, configuration_of plain.now)) }
-        ensures added { (i : ℕ) → result ≡ Ok (Some (Entry.Added i)) → (kept_list self.new ≡ kept_list self.old ++ (next, configuration_of plain.now) ∷ []) × (i ≡ length (kept_list self.old)) }
+        requires named { written < length (kept_lists self.old) }
+        ensures seen { (i : ℕ) → result ≡ Ok (Some (Entry.Seen i)) → (kept_list self.new ≡ kept_list self.old) × (slice_get (kept_list self.old) i ≡ Some (entry next (get_or (kept_lists self.old) written []) (configuration_of plain.now))) }
+        ensures added { (i : ℕ) → result ≡ Ok (Some (Entry.Added i)) → (kept_list self.new ≡ kept_list self.old ++ entry next (get_or (kept_lists self.old) written []) (configuration_of plain.now) ∷ []) × (i ≡ length (kept_list self.old)) }
         ensures none { result ≡ Ok None → kept_list self.new ≡ kept_list self.old }
         ensures full { result ≡ Ok None → AreNamedFrom 0 (configuration_of plain.now).objects → IsFull self.new }
         ensures error { OnErr result (kept_list self.new ≡ kept_list self.old) }
         ensures program { kept_program self.new ≡ kept_program self.old }
+        ensures lists { kept_lists self.new ≡ kept_lists self.old }
         ensures in_order { OnOk result (IsInOrder (configuration_of plain.now)) }
     {
         let state = plain.state();
@@ -161,6 +208,7 @@ impl<'a> VisitedSet<'a> {
         };
         let found = Numbered {
             next,
+            written,
             objects,
             queues,
         };

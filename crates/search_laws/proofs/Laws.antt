@@ -1,14 +1,14 @@
 -- The lemmas that other crates cite.
 
 -- names
-pub use Rattle.search_laws.proofs.SearchCompleteness.{step_leads, step_none, all_are_seen, never_stuck, never_unfinished, never_faulty}
+pub use Rattle.search_laws.proofs.SearchCompleteness.{step_leads, step_none, at_end_kept, all_are_seen, never_stuck, never_unfinished, never_faulty}
 pub use Rattle.search_laws.proofs.Nameless.{nameless}
 pub use Rattle.search_laws.proofs.NextName.{at_end_by_next}
 -- transitions that need no choice
 pub use Rattle.search_laws.proofs.Commutation.{Alone, commutes}
 pub use Rattle.search_laws.proofs.ChoiceFreeRuns.{sorted_after, start_sorted, never_stuck_after_settling, never_unfinished_after_settling}
 pub use Rattle.search_laws.proofs.KeptOnTheWay.{never_faulty_after_settling, never_dead_after_settling}
-pub use Rattle.search_laws.proofs.AllLabelsTried.{settles_by, whole_by_trying}
+pub use Rattle.search_laws.proofs.AllLabelsTried.{is_in_states, silent_keeps_nothing, whole_by_trying, whole_with_writes}
 -- dead objects
 pub use Rattle.search_laws.proofs.Dead.{dead_for_good, stuck_is_dead, not_dead}
 pub use Rattle.search_laws.proofs.DeadByList.{nobody_dead, dead_by_list}
@@ -17,7 +17,8 @@ pub use Rattle.search_laws.proofs.Known.{known_reached}
 pub use Rattle.search_laws.proofs.Caught.{caught_is_dead}
 pub use Rattle.search_laws.proofs.CaughtWalk.{caught_tells, is_told_caught}
 -- what is written
-pub use Rattle.search_laws.proofs.Outcomes.{every_end_is_kept, nothing_else_is_written, nothing_else_whatever_the_names}
+pub use Rattle.search_laws.proofs.Alike.{ends_alike}
+pub use Rattle.search_laws.proofs.Outcomes.{every_end_is_kept, items_are, nothing_else_is_written, nothing_else_whatever_the_names}
 pub use Rattle.search_laws.proofs.ChosenOutcomes.{every_end_is_kept_by_choices, nothing_else_by_choices, whatever_the_names_by_choices}
 -- stubborn sets
 pub use Rattle.search_laws.proofs.PutOff.{in_the_end_by_places}

@@ -1,6 +1,6 @@
 -- Worked programs, which compute: one that is stuck, one with three configurations to keep that is never stuck or
 -- faulty, and callers that are caught or dead.
-use Rattle.std.proofs.Common.{◌≡◌, true, false, inl, inr, refl, sym, ap, ◌∙◌, subst, ℕ, pos, List, [], ◌∷◌, ◌++◌, Option, Some, None}
+use Rattle.std.proofs.Common.{◌≡◌, true, false, inl, inr, refl, sym, ap, ◌∙◌, subst, ℕ, pos, List, [], ◌∷◌, ◌++◌, map, Option, Some, None}
 use Rattle.run_types.specs.declared.types.Value.{Value}
 use Rattle.run_types.specs.declared.types.Value.TheVariants as V
 use Rattle.run_types.specs.declared.types.NameId.{NameId}
@@ -17,10 +17,11 @@ use Rattle.run_types.specs.Partial.{◌>>=◌}
 use Rattle.run_types.proofs.Laws.{same_some}
 use Rattle.pool_relation.specs.Configuration.{Configuration}
 use Rattle.pool_relation.specs.Transition.{transition, run, start}
-use Rattle.reachability.specs.Search.{IsReached, IsStuck, IsFaulty, WaitsAt, IsIn, Settles, Settled}
+use Rattle.reachability.specs.Search.{IsReached, IsStuck, IsFaulty, WaitsAt, IsIn}
 use Rattle.search_laws.specs.Renamed.{IsNameless}
 use Rattle.reachability.specs.Labels.{labels_to_try}
-use Rattle.search_laws.specs.Tried.{IsTried}
+use Rattle.search_laws.specs.Outcomes.{Passed}
+use Rattle.search_laws.specs.Tried.{Follows, Stays, IsTried, states_only, state_of}
 use Rattle.search_laws.specs.Dead.{IsDead, HasDead}
 use Rattle.search_laws.specs.Caught.{is_caught}
 use Rattle.search_laws.proofs.Dead.{stuck_is_dead}
@@ -28,7 +29,7 @@ use Rattle.search_laws.proofs.Caught.{caught_is_dead}
 use Rattle.search_laws.proofs.CaughtWalk.{is_told_caught}
 use Rattle.search_laws.proofs.AllLabels.{at_end_by_trying}
 use Rattle.search_laws.proofs.ChoiceFreeRuns.{never_stuck_after_settling}
-use Rattle.search_laws.proofs.AllLabelsTried.{settles_by, whole_by_trying, nobody_waits, nobody_faulty}
+use Rattle.search_laws.proofs.AllLabelsTried.{follows_by, whole_by_trying, nobody_waits, nobody_faulty}
 use Rattle.search_laws.proofs.KeptOnTheWay.{never_faulty_after_settling}
 
 abbrev name : ℕ → NameId
@@ -130,8 +131,14 @@ second = reached program (creates ∷ asks)
 abbrev third : Configuration
 third = reached program (creates ∷ (asks ++ answers ∷ finishes))
 
-abbrev kept : List (ℕ × Configuration)
-kept = (1, first) ∷ (2, second) ∷ (2, third) ∷ []
+abbrev entry : ℕ → Configuration → Passed
+entry n c = record { next = n; items = []; configuration = c }
+
+abbrev kept : List Passed
+kept = entry 1 first ∷ entry 2 second ∷ entry 2 third ∷ []
+
+abbrev states : List (ℕ × Configuration)
+states = map state_of kept
 
 first_labels : labels_to_try program 1 first ≡ creates ∷ []
 first_labels = refl
@@ -142,27 +149,27 @@ second_labels = refl
 third_labels : labels_to_try program 2 third ≡ []
 third_labels = refl
 
-is_tried : IsTried program kept
+is_tried : IsTried program states_only kept
 is_tried = record {
-  begins = λ c e. (first, subst (λ (x : Configuration). Settles program x first) (same_some e) Settled, inl (refl, refl));
+  begins = λ c e. (first, subst (λ (x : Configuration). Follows program states_only x first) (same_some e) Stays, inl (refl, refl, refl));
   tried = (
     (refl, refl),
-    (inr (record { next = reached program (creates ∷ []); step = refl; to = second; settles = settles_by program _ second asks refl refl; is_in = inr (inl (refl, refl)) }), tt),
+    (inr (record { next = reached program (creates ∷ []); step = refl; to = second; follows = follows_by program states_only _ second asks refl refl; is_in = inr (inl (refl, refl, refl)) }), tt),
     (
       (refl, refl),
-      (inr (record { next = reached program (creates ∷ (asks ++ answers ∷ [])); step = refl; to = third; settles = settles_by program _ third finishes refl refl; is_in = inr (inr (inl (refl, refl))) }), tt),
+      (inr (record { next = reached program (creates ∷ (asks ++ answers ∷ [])); step = refl; to = third; follows = follows_by program states_only _ third finishes refl refl; is_in = inr (inr (inl (refl, refl, refl))) }), tt),
       ((refl, refl), tt, tt),
     ),
   );
 }
 
-none_stuck : (n : ℕ) (c : Configuration) → IsIn n c kept → ¬ (IsStuck program c)
+none_stuck : (n : ℕ) (c : Configuration) → IsIn n c states → ¬ (IsStuck program c)
 none_stuck n c (inl i) s = absurd (let z = ap (λ d. transition program d creates) i.1 ∙ s.at_end creates in cc)
 none_stuck n c (inr (inl i)) s = absurd (let z = ap (λ d. transition program d answers) i.1 ∙ s.at_end answers in cc)
 none_stuck n c (inr (inr (inl i))) s = nobody_waits program third s.name (refl, (refl, tt)) (subst (λ (d : Configuration). WaitsAt program d s.name) (sym i.1) s.waits)
 none_stuck n c (inr (inr (inr i))) s = absurd i
 
-none_faulty : (n : ℕ) (c : Configuration) → IsIn n c kept → ¬ (IsFaulty c)
+none_faulty : (n : ℕ) (c : Configuration) → IsIn n c states → ¬ (IsFaulty c)
 none_faulty n c (inl i) f = nobody_faulty first (refl, tt) (subst IsFaulty (sym i.1) f)
 none_faulty n c (inr (inl i)) f = nobody_faulty second (refl, (refl, tt)) (subst IsFaulty (sym i.1) f)
 none_faulty n c (inr (inr (inl i))) f = nobody_faulty third (refl, (refl, tt)) (subst IsFaulty (sym i.1) f)
@@ -173,10 +180,10 @@ nameless f = refl
 
 -- no run of the program leads to a stuck configuration, nor to a faulty one
 never_stuck : (d : Configuration) → IsReached program d → ¬ (IsStuck program d)
-never_stuck = never_stuck_after_settling program kept nameless (whole_by_trying program kept is_tried) none_stuck
+never_stuck = never_stuck_after_settling program states nameless (whole_by_trying program kept is_tried) none_stuck
 
 never_faulty : (d : Configuration) → IsReached program d → ¬ (IsFaulty d)
-never_faulty = never_faulty_after_settling program kept nameless (whole_by_trying program kept is_tried) none_faulty
+never_faulty = never_faulty_after_settling program states nameless (whole_by_trying program kept is_tried) none_faulty
 
 -- an object that calls itself is caught, so it is dead
 itself_caught : is_caught itself (reached itself (L.Local 0 ∷ [])) 0 ≡ true

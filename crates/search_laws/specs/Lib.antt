@@ -6,5 +6,5 @@ pub mod Caught
 pub mod Stubborn
 pub mod PutOff
 pub mod Outcomes
-pub mod Moves
 pub mod Tried
+pub mod Moves

@@ -1,33 +1,72 @@
--- Lists of configurations of which all labels were tried.
-use Rattle.std.specs.Prelude.{◌≡◌, ◌⊎◌, ℕ, List, [], ◌∷◌, Some, None}
+-- Lists of which all labels were tried, for a search that keeps configurations alone, or also what was written.
+use Rattle.std.specs.Prelude.{◌≡◌, ◌⊎◌, ℕ, List, [], ◌∷◌, ◌++◌, Some, None, Bool, true}
+use Rattle.run_types.specs.declared.types.Item.{Item}
 use Rattle.run_types.specs.declared.types.Label.{Label}
 use Rattle.pool_syntax.specs.Terms.{ProgramTree}
 use Rattle.pool_relation.specs.Configuration.{Configuration}
 use Rattle.pool_relation.specs.Transition.{transition, start}
-use Rattle.reachability.specs.Search.{after, IsIn, IsInOrder, Settles}
-use Rattle.reachability.specs.Labels.{labels_to_try}
+use Rattle.reachability.specs.Search.{after, needs_no_choice, IsInOrder}
+use Rattle.reachability.specs.Labels.{labels_to_try, is_silent}
+use Rattle.reachability.specs.Outcomes.{items_of}
+use Rattle.search_laws.specs.Outcomes.{Passed, IsPassed}
 
--- the label is possible and leads into the list, after some transitions that need no choice
-pub record LeadsInto (p : ProgramTree) (es : List (ℕ × Configuration)) (n : ℕ) (c : Configuration) (l : Label) : Type 0 where
-  pub next : Configuration
-  pub step : transition p c l ≡ Some next
-  pub to : Configuration
-  pub settles : Settles p next to
-  pub is_in : IsIn (after n l) to es
+-- what a search keeps of the label that leads to a configuration, and which labels it follows without keeping the
+-- configurations between
+pub record Course : Type 0 where
+  pub keeps : Label → List Item
+  pub follows : Label → Bool
 
--- each of these labels is not possible, or leads into the list
-abbrev pub AllLeadInto : ProgramTree → List (ℕ × Configuration) → ℕ → Configuration → List Label → Type 0
-AllLeadInto p es n c [] = Unit {0}
-AllLeadInto p es n c (l ∷ ls) = ((transition p c l ≡ None) ⊎ LeadsInto p es n c l) × AllLeadInto p es n c ls
+-- of the labels that it follows it keeps nothing
+abbrev pub KeepsNothing : Course → Type 0
+KeepsNothing k = (l : Label) → k.follows l ≡ true → k.keeps l ≡ []
 
--- each configuration of the second list is in order, and each of its labels to try leads into the first list or is not
--- possible
-abbrev pub AreTried : ProgramTree → List (ℕ × Configuration) → List (ℕ × Configuration) → Type 0
-AreTried p es [] = Unit {0}
-AreTried p es (e ∷ rest) = IsInOrder e.1 × AllLeadInto p es e.0 e.1 (labels_to_try p e.0 e.1) × AreTried p es rest
+-- configurations alone
+abbrev pub states_only : Course
+states_only = record { keeps = λ _. []; follows = needs_no_choice }
 
--- the facts that a search has established at its end: the start leads into the list, and all labels of each
--- configuration were tried
-pub record IsTried (p : ProgramTree) (es : List (ℕ × Configuration)) : Type 0 where
-  pub begins : (c : Configuration) → start p 0 ≡ Some c → (e : Configuration) × Settles p c e × IsIn 1 e es
-  pub tried : AreTried p es es
+-- what is written, too
+abbrev pub with_writes : Course
+with_writes = record { keeps = items_of; follows = is_silent }
+
+module _ (p : ProgramTree) (k : Course) where
+  -- any number of transitions that are followed
+  pub data Follows : Configuration → Configuration → Type 0 where
+    Stays : {c : Configuration} → Follows c c
+    GoesBy : {c d e : Configuration} (l : Label) → k.follows l ≡ true → transition p c l ≡ Some d → Follows d e → Follows c e
+
+  -- the label is possible and leads into the list, after some transitions that are followed
+  pub record LeadsInto (es : List Passed) (n : ℕ) (w : List Item) (c : Configuration) (l : Label) : Type 0 where
+    pub next : Configuration
+    pub step : transition p c l ≡ Some next
+    pub to : Configuration
+    pub follows : Follows next to
+    pub is_in : IsPassed (after n l) (w ++ k.keeps l) to es
+
+  -- the label is impossible, or leads into the list
+  abbrev pub IsLabelTried : List Passed → ℕ → List Item → Configuration → Label → Type 0
+  IsLabelTried es n w c l = (transition p c l ≡ None) ⊎ LeadsInto es n w c l
+
+  -- so is each of these labels
+  abbrev pub AllLeadInto : List Passed → ℕ → List Item → Configuration → List Label → Type 0
+  AllLeadInto es n w c [] = Unit {0}
+  AllLeadInto es n w c (l ∷ ls) = IsLabelTried es n w c l × AllLeadInto es n w c ls
+
+  -- each configuration of the second list is in order, and each of its labels to try leads into the first list or is not
+  -- possible
+  abbrev pub AreTried : List Passed → List Passed → Type 0
+  AreTried es [] = Unit {0}
+  AreTried es (e ∷ rest) = IsInOrder e.configuration × AllLeadInto es e.next e.items e.configuration (labels_to_try p e.next e.configuration) × AreTried es rest
+
+  -- the start settles into the list
+  abbrev pub Begins : List Passed → Type 0
+  Begins es = (c : Configuration) → start p 0 ≡ Some c → (e : Configuration) × Follows c e × IsPassed 1 [] e es
+
+  -- the facts that a search has established at its end: the start leads into the list, and all labels of each
+  -- configuration were tried
+  pub record IsTried (es : List Passed) : Type 0 where
+    pub begins : Begins es
+    pub tried : AreTried es es
+
+-- the configuration with its next name
+abbrev pub state_of : Passed → ℕ × Configuration
+state_of e = (e.next, e.configuration)

@@ -11,7 +11,7 @@ ghost use Rattle.pool_relation.specs.Configuration.{Configuration, object_of, pu
 ghost use Rattle.pool_relation.specs.Transition.{transition, run};
 ghost use Rattle.search_laws.specs.Renamed.{Renaming, renamed_item, renamed_program, renamed_label, IsRenamed, IsNameless};
 ghost use Rattle.reachability.specs.Labels.{IsAmong, labels_to_try};
-ghost use Rattle.search_laws.specs.Tried.{IsTried};
+ghost use Rattle.search_laws.specs.Tried.{IsTried, states_only, with_writes, state_of};
 ghost use Rattle.reachability.specs.Search.{Settles, WaitsAt, IsReached, IsAtEnd, IsStuck, IsUnfinished, IsFaulty, IsIn, IsClosedAfterSettling, names_next};
 ghost use Rattle.reachability.specs.Outcomes.{EndsWith, IsOneOf, all_name_none};
 ghost use Rattle.search_laws.specs.ClosedLists.{IsClosedSearch};
@@ -76,9 +76,10 @@ pub fn no_other_label_is_possible()
     ensures { (p : ProgramTree) (c d : Configuration) (n : ℕ) (l : Label) → names_next n l ≡ true → transition p c l ≡ Some d → IsAmong l (labels_to_try p n c) }
 {}
 
-/// A list of which all labels were tried is closed.
+/// A list of which all labels were tried is closed, and one that also has what was written misses no outcome.
 pub fn a_tried_list_is_whole()
-    ensures { (p : ProgramTree) (es : List (ℕ × Configuration)) → IsTried p es → IsClosedAfterSettling p es }
+    ensures states { (p : ProgramTree) (es : List Passed) → IsTried p states_only es → IsClosedAfterSettling p (map state_of es) }
+    ensures outcomes { (p : ProgramTree) (es : List Passed) → IsTried p with_writes es → IsWholeWith p None es }
 {}
 
 /// A search can tell everything that runs write until no label is possible. It keeps with each configuration what was

@@ -1,8 +1,11 @@
 -- The text of the result of a search; steps are written as in a record.
-use Rattle.std.specs.Prelude.{ℕ, List, [], ◌∷◌, ◌++◌, codes, decimal}
+use Rattle.std.specs.Prelude.{ℕ, List, [], ◌∷◌, ◌++◌, Bool, true, false, codes, decimal, map}
 use Rattle.text_scan.specs.Text.{Text}
 use Rattle.run_types.specs.declared.types.Label.{Label}
-use Rattle.record_writer.specs.RecordText.{label_words}
+use Rattle.record_writer.specs.RecordText.{item_text, label_words}
+use Rattle.pool_search.specs.declared.outcomes.EndKind.{EndKind}
+use Rattle.pool_search.specs.declared.outcomes.EndKind.TheVariants as K
+use Rattle.pool_search.specs.declared.outcomes.Outcome.{Outcome}
 use Rattle.wait_report.specs.declared.rows.ObjectRow.{ObjectRow}
 use Rattle.wait_report.specs.Report.{cycles_in, cycles_text, line}
 use Rattle.waiting_objects.specs.WaitsText.{waits_text}
@@ -37,3 +40,27 @@ finite_text kept = end_line (codes "finite") kept
 -- the search met a bound after this number of configurations
 abbrev pub over_text : ℕ → Text
 over_text kept = end_line (codes "over") kept
+
+-- the word for the kind of an end
+abbrev pub kind_word : EndKind → Text
+kind_word K.Fault = codes "fault"
+kind_word K.Stuck = codes "stuck"
+kind_word K.Left = codes "left"
+kind_word K.Done = codes "done"
+
+-- an outcome: how a run ends, and the items that it wrote, as in a record
+abbrev pub outcome_line : List Text → Outcome → Text
+outcome_line names o = line (codes "wrote" ∷ kind_word o.kind ∷ map (item_text names) o.items.items)
+
+abbrev pub outcomes_text : List Text → List Outcome → Text
+outcomes_text names [] = []
+outcomes_text names (o ∷ rest) = outcome_line names o ++ outcomes_text names rest
+
+-- the end of a list of outcomes that is complete, or may not be
+abbrev pub ending : Bool → ℕ → Text
+ending true kept = finite_text kept
+ending false kept = over_text kept
+
+-- a run that ends in this way, and the number of its transitions that are not local
+abbrev pub run_text : List Text → EndKind → List Label → Text
+run_text names k ls = steps_text names (steps ls) ++ end_line (kind_word k) (other_than_local ls)

@@ -1,21 +1,56 @@
--- The answer of a search: a text and an outcome, and its claim about the runs of the program.
-use Rattle.std.specs.Prelude.{◌≡◌, ◌≤◌, ℕ, List}
+-- The answer of a search: a text and what was found, and its claim about the runs of the program.
+use Rattle.std.specs.Prelude.{◌≡◌, ◌≤◌, ◌-◌, ◌++◌, ℕ, List, length, Bool, true, false}
 use Rattle.text_scan.specs.Text.{Text}
 use Rattle.pool_syntax.specs.Terms.{ProgramTree}
 use Rattle.run_types.specs.declared.types.Label.{Label}
 use Rattle.pool_search.specs.declared.queries.Query.{Query}
 use Rattle.pool_search.specs.SearchTargets.{LeadsTo, IsWantedStuck, IsWantedFault, IsFinite}
-use Rattle.search_text.specs.AnswerText.{fault_text, finite_text, over_text, stuck_text}
+use Rattle.run_types.specs.Tables.{Each}
+use Rattle.pool_search.specs.declared.outcomes.Outcome.{Outcome}
+use Rattle.pool_search.specs.OutcomeTargets.{HasAllOutcomes, IsRunOf, IsShown}
+use Rattle.search_text.specs.AnswerText.{ending, fault_text, finite_text, outcomes_text, over_text, run_text, stuck_text}
+use Rattle.search_text.specs.declared.answers.Question.{Question}
+use Rattle.search_text.specs.declared.answers.Question.TheVariants as Q
 use Rattle.waiting_objects.specs.Waiting.{waiting_rows}
-use Rattle.search_text.specs.declared.answers.Outcome.{Outcome}
-use Rattle.search_text.specs.declared.answers.Outcome.TheVariants as O
+use Rattle.search_text.specs.declared.answers.Found.{Found}
+use Rattle.search_text.specs.declared.answers.Found.TheVariants as O
 
 -- The answer for a program. It is a run from the start that gets stuck, with
 -- the objects that wait at its end, or a run that meets a run-time error.
 -- Or no run leads to such a configuration, under any names of objects, and a closed list of configurations shows this.
 -- Or nothing is known after this number of configurations.
-pub data Answers (names : List Text) (p : ProgramTree) (q : Query) (text : Text) (outcome : Outcome) : Type 0 where
-  stuck : (ls : List Label) (run : LeadsTo p ls (IsWantedStuck p q)) → text ≡ stuck_text names ls (waiting_rows q.all p run.last) → outcome ≡ O.Shown → Answers names p q text outcome
-  faulty : (ls : List Label) → LeadsTo p ls (IsWantedFault q) → text ≡ fault_text names ls → outcome ≡ O.Shown → Answers names p q text outcome
-  finite : (kept : ℕ) → IsFinite p q kept → text ≡ finite_text kept → outcome ≡ O.Finite → Answers names p q text outcome
-  over : (kept : ℕ) → kept ≤ q.most → text ≡ over_text kept → outcome ≡ O.Over → Answers names p q text outcome
+pub data Answers (names : List Text) (p : ProgramTree) (q : Query) (text : Text) (found : Found) : Type 0 where
+  stuck : (ls : List Label) (run : LeadsTo p ls (IsWantedStuck p q)) → text ≡ stuck_text names ls (waiting_rows q.all p run.last) → found ≡ O.Shown → Answers names p q text found
+  faulty : (ls : List Label) → LeadsTo p ls (IsWantedFault q) → text ≡ fault_text names ls → found ≡ O.Shown → Answers names p q text found
+  finite : (kept : ℕ) → IsFinite p q kept → text ≡ finite_text kept → found ≡ O.Finite → Answers names p q text found
+  over : (kept : ℕ) → kept ≤ q.most → text ≡ over_text kept → found ≡ O.Over → Answers names p q text found
+
+-- what was found where all outcomes are asked for: the list is complete, or may not be
+abbrev pub found_of : Bool → Found
+found_of true = O.Finite
+found_of false = O.Over
+
+-- The outcomes of a program. Each is shown by a run from the start. If the list is complete, each run that comes to its
+-- end has one of them, under any names of objects.
+pub record TellsOutcomes (names : List Text) (p : ProgramTree) (most : ℕ) (text : Text) (found : Found) : Type 0 where
+  pub list : List Outcome
+  pub whole : Bool
+  pub kept : ℕ
+  pub shown : Each (IsShown p) list
+  pub complete : whole ≡ true → HasAllOutcomes p list
+  pub within : kept ≤ most
+  pub says : text ≡ outcomes_text names list ++ ending whole kept
+  pub is : found ≡ found_of whole
+
+-- A run from the start with the outcome at this place, counted from 1. Or the list of outcomes is complete and ends before
+-- this place, or the list may not be complete.
+pub data ShowsRun (names : List Text) (p : ProgramTree) (place most : ℕ) (text : Text) (found : Found) : Type 0 where
+  run : (o : Outcome) (ls : List Label) → IsRunOf p o ls → text ≡ run_text names o.kind ls → found ≡ O.Run → ShowsRun names p place most text found
+  missing : (list : List Outcome) (kept : ℕ) → HasAllOutcomes p list → length list ≤ place - 1 → kept ≤ most → text ≡ finite_text kept → found ≡ O.Missing → ShowsRun names p place most text found
+  unknown : (kept : ℕ) → kept ≤ most → text ≡ over_text kept → found ≡ O.Over → ShowsRun names p place most text found
+
+-- the answer to a question
+abbrev pub IsAnswerTo : List Text → ProgramTree → Question → Text → Found → Type 0
+IsAnswerTo names p (Q.Sought q) text found = Answers names p q text found
+IsAnswerTo names p (Q.Outcomes most) text found = TellsOutcomes names p most text found
+IsAnswerTo names p (Q.Run place most) text found = ShowsRun names p place most text found

@@ -1,11 +1,13 @@
 //! The text of the result of a search.
-ghost use Rattle.std.specs.Prelude.{◌≡◌, ◌++◌, IfOk, OnOk};
-ghost use Rattle.search_text.specs.AnswerText.{end_line, fault_text, finite_text, over_text, stuck_text};
+ghost use Rattle.std.specs.Prelude.{◌≡◌, ◌++◌, map, IfOk, OnOk};
+ghost use Rattle.record_writer.specs.RecordText.{item_text, led};
+ghost use Rattle.search_text.specs.AnswerText.{end_line, fault_text, ending, finite_text, kind_word, outcome_line, outcomes_text, over_text, run_text, stuck_text};
 ghost use Rattle.wait_report.specs.Calls.{names_of, Rising};
 
 use crate::steps::{other_than_local, push_steps};
-use record_writer::{push_count, push_word};
-use run_types::{Label, Names};
+use pool_search::{EndKind, Outcome};
+use record_writer::{push_count, push_item, push_word};
+use run_types::{Item, Label, Names};
 use std::alloc::{AllocError, Global};
 use wait_report::{ObjectRow, put_each_cycle};
 use waiting_objects::push_waiting;
@@ -66,5 +68,82 @@ pub fn over_text(alloc: Global, kept: usize) -> Result<Vec<u8>, AllocError>
 {
     let mut text = Vec::new(alloc);
     push_end(&mut text, b"over", kept)?;
+    Ok(text)
+}
+
+/// The word for the kind of an end.
+fn kind_word(kind: EndKind) -> &'static [u8]
+    ensures { result.now ≡ kind_word kind }
+{
+    match kind {
+        EndKind::Fault => b"fault",
+        EndKind::Stuck => b"stuck",
+        EndKind::Left => b"left",
+        EndKind::Done => b"done",
+    }
+}
+
+/// Appends the items, each after a space.
+fn push_items(text: &mut Vec<u8>, names: &Names, items: &[Item]) -> Result<(), AllocError>
+    ensures { OnOk result (text.new.items ≡ text.old.items ++ led (map (item_text names.now) items.now)) }
+{
+    for item in items {
+        push_item(text, names, *item)?;
+    }
+    Ok(())
+}
+
+/// Appends the line of an outcome.
+fn push_outcome(text: &mut Vec<u8>, names: &Names, outcome: &Outcome) -> Result<(), AllocError>
+    ensures { OnOk result (text.new.items ≡ text.old.items ++ outcome_line names.now outcome.now) }
+{
+    text.extend_from_slice(b"wrote")?;
+    push_word(text, kind_word(outcome.kind))?;
+    push_items(text, names, &outcome.items)?;
+    text.extend_from_slice(b"\n")
+}
+
+/// Appends the end of a list of outcomes. `whole` tells whether the list is complete.
+fn push_ending(text: &mut Vec<u8>, whole: bool, kept: usize) -> Result<(), AllocError>
+    ensures { OnOk result (text.new.items ≡ text.old.items ++ ending whole kept) }
+{
+    if whole {
+        push_end(text, b"finite", kept)
+    } else {
+        push_end(text, b"over", kept)
+    }
+}
+
+/// The lines of these outcomes, and the end line. `whole` tells whether there is no other outcome, and `kept` is the
+/// number of configurations. An error means out of memory.
+pub fn outcomes_text(
+    alloc: Global,
+    names: &Names,
+    list: &[Outcome],
+    whole: bool,
+    kept: usize,
+) -> Result<Vec<u8>, AllocError>
+    ensures { IfOk result (λ text. text.items ≡ outcomes_text names.now list.now ++ ending whole kept) }
+{
+    let mut text = Vec::new(alloc);
+    for outcome in list {
+        push_outcome(&mut text, names, outcome)?;
+    }
+    push_ending(&mut text, whole, kept)?;
+    Ok(text)
+}
+
+/// The text of a run that ends in this way: its steps, and the end line. An error means out of memory.
+pub fn run_text(
+    alloc: Global,
+    names: &Names,
+    kind: EndKind,
+    labels: &[Label],
+) -> Result<Vec<u8>, AllocError>
+    ensures { IfOk result (λ text. text.items ≡ run_text names.now kind labels.now) }
+{
+    let mut text = Vec::new(alloc);
+    push_steps(&mut text, names, labels)?;
+    push_end(&mut text, kind_word(kind), other_than_local(labels))?;
     Ok(text)
 }

@@ -2,32 +2,47 @@
 ghost use Rattle.std.specs.Prelude.{◌≡◌, IfOk};
 ghost use Rattle.pool_syntax.specs.TreeOf.{program_of};
 ghost use Rattle.pool_search.specs.SearchTargets.{IsWantedStuck, LeadsTo};
-ghost use Rattle.search_text.specs.Answers.{Answers};
+ghost use Rattle.search_text.specs.Answers.{Answers, IsAnswerTo, ShowsRun, TellsOutcomes, found_of};
 
-use crate::answer::{fault_text, finite_text, over_text, stuck_text};
+use crate::answer::{fault_text, finite_text, outcomes_text, over_text, run_text, stuck_text};
 use crate::shown::replay;
 use class_check::Checked;
-use pool_search::{Query, SearchResult, search};
+use pool_search::{OutcomeRun, Query, SearchResult, all_outcomes, outcome_run, search};
 use run_types::{Label, Names};
 use std::alloc::{AllocError, Global};
 use waiting_objects::waiting_rows;
 
+/// A question to the search.
+#[derive(Clone, Copy)]
+pub enum Question {
+    /// Is there a run that the query looks for?
+    Sought(Query),
+    /// All outcomes. The search keeps at most `most` configurations.
+    Outcomes { most: u32 },
+    /// A run with the outcome at this place in the list of outcomes, counted from 1, at most 10,000,000.
+    Run { place: u32, most: u32 },
+}
+
 /// What a search found.
 #[derive(Clone, Copy)]
-pub enum Outcome {
+pub enum Found {
     /// No run leads to a configuration that the search looks for.
     Finite,
     /// The text has a run that leads to such a configuration.
     Shown,
     /// The search met a bound: on kept configurations, on transitions without a choice, or on numbers of 32 bits.
     Over,
+    /// The text has the run with the outcome that was asked for.
+    Run,
+    /// The list of outcomes is complete, and the one that was asked for is not in it.
+    Missing,
 }
 
 /// The text of a search's result, and what the search found.
 #[derive(Drop)]
 pub struct Answer {
     pub text: Vec<u8>,
-    pub outcome: Outcome,
+    pub found: Found,
 }
 
 /// The answer for a run that gets stuck, with the objects that wait at its end. An error means out of memory.
@@ -39,15 +54,92 @@ fn stuck_answer(
     labels: &[Label],
 ) -> Result<Answer, AllocError>
     requires { LeadsTo (program_of program.now.program.now) labels.now (IsWantedStuck (program_of program.now.program.now) question.now) }
-    ensures { IfOk result (λ a. Answers names.now (program_of program.now.program.now) question.now a.text.items a.outcome) }
+    ensures { IfOk result (λ a. Answers names.now (program_of program.now.program.now) question.now a.text.items a.found) }
 {
     let plain = replay(alloc, program, labels)?;
     let rows = waiting_rows(alloc, &plain, question.all)?;
     let text = stuck_text(alloc, names, labels, &rows)?;
     Ok(Answer {
         text,
-        outcome: Outcome::Shown,
+        found: Found::Shown,
     })
+}
+
+/// The answer to the question for a run of some kind. An error means out of memory.
+fn sought_answer(
+    alloc: Global,
+    program: &Checked<'_>,
+    names: &Names,
+    question: &Query,
+) -> Result<Answer, AllocError>
+    ensures { IfOk result (λ a. Answers names.now (program_of program.now.program.now) question.now a.text.items a.found) }
+{
+    match search(alloc, program, question) {
+        Ok(SearchResult::Stuck(labels)) => stuck_answer(alloc, program, names, question, &labels),
+        Ok(SearchResult::Fault(labels)) => Ok(Answer {
+            text: fault_text(alloc, names, &labels)?,
+            found: Found::Shown,
+        }),
+        Ok(SearchResult::Finite(kept)) => Ok(Answer {
+            text: finite_text(alloc, kept as usize)?,
+            found: Found::Finite,
+        }),
+        Ok(SearchResult::Over(kept)) => Ok(Answer {
+            text: over_text(alloc, kept as usize)?,
+            found: Found::Over,
+        }),
+        Err(AllocError) => Err(AllocError),
+    }
+}
+
+/// What was found where all outcomes are asked for. `whole` tells whether the list is complete.
+fn found_of(whole: bool) -> Found
+    ensures { result ≡ found_of whole }
+{
+    if whole { Found::Finite } else { Found::Over }
+}
+
+/// The answer to the question for all outcomes. An error means out of memory.
+fn outcomes_answer(
+    alloc: Global,
+    program: &Checked<'_>,
+    names: &Names,
+    most: u32,
+) -> Result<Answer, AllocError>
+    ensures { IfOk result (λ a. TellsOutcomes names.now (program_of program.now.program.now) most a.text.items a.found) }
+{
+    let told = all_outcomes(alloc, program, most)?;
+    let text = outcomes_text(alloc, names, &told.list, told.whole, told.kept as usize)?;
+    Ok(Answer {
+        text,
+        found: found_of(told.whole),
+    })
+}
+
+/// The answer to the question for a run with the outcome at this place, counted from 1. An error means out of memory.
+fn run_answer(
+    alloc: Global,
+    program: &Checked<'_>,
+    names: &Names,
+    place: u32,
+    most: u32,
+) -> Result<Answer, AllocError>
+    ensures { IfOk result (λ a. ShowsRun names.now (program_of program.now.program.now) place most a.text.items a.found) }
+{
+    match outcome_run(alloc, program, most, place.saturating_sub(1))? {
+        OutcomeRun::Shown { outcome, labels } => Ok(Answer {
+            text: run_text(alloc, names, outcome.kind, &labels)?,
+            found: Found::Run,
+        }),
+        OutcomeRun::Finite(count) => Ok(Answer {
+            text: finite_text(alloc, count as usize)?,
+            found: Found::Missing,
+        }),
+        OutcomeRun::Over(count) => Ok(Answer {
+            text: over_text(alloc, count as usize)?,
+            found: Found::Over,
+        }),
+    }
 }
 
 /// Searches the program, and returns the answer. An error means out of memory.
@@ -55,24 +147,13 @@ pub fn answer_of(
     alloc: Global,
     program: &Checked<'_>,
     names: &Names,
-    question: &Query,
+    question: &Question,
 ) -> Result<Answer, AllocError>
-    ensures { IfOk result (λ a. Answers names.now (program_of program.now.program.now) question.now a.text.items a.outcome) }
+    ensures { IfOk result (λ a. IsAnswerTo names.now (program_of program.now.program.now) question.now a.text.items a.found) }
 {
-    match search(alloc, program, question) {
-        Ok(SearchResult::Stuck(labels)) => stuck_answer(alloc, program, names, question, &labels),
-        Ok(SearchResult::Fault(labels)) => Ok(Answer {
-            text: fault_text(alloc, names, &labels)?,
-            outcome: Outcome::Shown,
-        }),
-        Ok(SearchResult::Finite(kept)) => Ok(Answer {
-            text: finite_text(alloc, kept as usize)?,
-            outcome: Outcome::Finite,
-        }),
-        Ok(SearchResult::Over(kept)) => Ok(Answer {
-            text: over_text(alloc, kept as usize)?,
-            outcome: Outcome::Over,
-        }),
-        Err(AllocError) => Err(AllocError),
+    match question {
+        Question::Sought(query) => sought_answer(alloc, program, names, query),
+        Question::Outcomes { most } => outcomes_answer(alloc, program, names, *most),
+        Question::Run { place, most } => run_answer(alloc, program, names, *place, *most),
     }
 }

@@ -8,4 +8,4 @@ mod answers;
 mod shown;
 mod steps;
 
-pub use answers::{Answer, Outcome, answer_of};
+pub use answers::{Answer, Found, Question, answer_of};

@@ -8,7 +8,7 @@ use Rattle.command_shell.proofs.Laws.{may_at, none_opened, opened_within, stops_
 use Rattle.explore_driver.specs.Ends.{explore_program, inputs}
 use Rattle.explore_driver.specs.Results.{IsWritable, status_of, text_of}
 use Rattle.explore_driver.specs.Words.{of_search}
-use Rattle.search_text.specs.Answers.{Answers}
+use Rattle.search_text.specs.Answers.{IsAnswerTo}
 use Rattle.explore_driver.proofs.OutputLaws.{class_stops, reaches_program, search_makes}
 use Rattle.explore_driver.proofs.outputs.search_output.Goals as goal
 
@@ -52,8 +52,8 @@ returns-in-Ok-answer_of-clause-makes g c =
     let q = c.args.question.now in
     let a = c.in-Ok-answer_of.answer in
     let w = was_read _ _ _ _ _ _ read c.in-Ok.ensures.reads in
-    search_makes _ q c.args.name.now w.0 read _ a.outcome w.1.0 w.2 (c.in-Ok-judge_classes.ensures.typed refl) c.in-Ok.ensures.opened_once w.1.1 w.1.2 w.3
-    (subst (λ (p : ProgramTree). Answers read.names p q a.text.items a.outcome) (ap program_of c.in-Ok-judge_classes.ensures.same.0) c.in-Ok-answer_of.ensures) c.status_of_outcome.ensures
+    search_makes _ q c.args.name.now w.0 read _ a.found w.1.0 w.2 (c.in-Ok-judge_classes.ensures.typed refl) c.in-Ok.ensures.opened_once w.1.1 w.1.2 w.3
+    (subst (λ (p : ProgramTree). IsAnswerTo read.names p q a.text.items a.found) (ap program_of c.in-Ok-judge_classes.ensures.same.0) c.in-Ok-answer_of.ensures) c.status_of_found.ensures
 
 pub returns-in-Ok-answer_of-clause-unread_within : goal.returns-in-Ok-answer_of-clause-unread_within
 returns-in-Ok-answer_of-clause-unread_within g c =

@@ -1,6 +1,7 @@
 use Rattle.std.proofs.Common.{◌≡◌, false}
 use Rattle.pool_semantics.specs.PlainOf.{configuration_of, program_tree, is_spent}
-use Rattle.reachability.specs.Search.{Settles}
+use Rattle.search_laws.specs.Tried.{Follows}
+use Rattle.pool_search.specs.Courses.{course_of}
 use Rattle.pool_search.proofs.settling.settle.Given as goal
 
 -- so far only such transitions were made
@@ -9,5 +10,5 @@ invariant-loop-made l =
     record {
       program : program_tree l.plain ≡ program_tree l.initial.plain;
       fresh : is_spent l.plain ≡ false;
-      settles : Settles (program_tree l.initial.plain) (configuration_of l.initial.plain) (configuration_of l.plain);
+      follows : Follows (program_tree l.initial.plain) (course_of l.keeps) (configuration_of l.initial.plain) (configuration_of l.plain);
     }

@@ -1,5 +1,6 @@
 use Rattle.std.proofs.Common.{◌≡◌, ◌≤◌, ◌-◌, length}
-use Rattle.pool_search.specs.Entries.{entries, searched}
+use Rattle.search_laws.specs.Tried.{states_only}
+use Rattle.pool_search.specs.Entries.{IsPassedOver, entries, searched}
 use Rattle.pool_search.specs.Progress.{IsSearchedTo}
 use Rattle.pool_search.proofs.explored.Explored.look.Given as goal
 
@@ -10,7 +11,7 @@ invariant-loop-at l =
       program : searched l.self ≡ searched l.initial.self;
       inside : l.at ≤ length (entries l.self);
       within : length (entries l.self) ≤ l.question.most;
-      so_far : IsSearchedTo (searched l.initial.self) l.question (entries l.self) l.at;
+      so_far : IsSearchedTo (searched l.initial.self) states_only (IsPassedOver (searched l.initial.self) l.question) (entries l.self) l.at;
     }
 
 abbrev pub decreases-loop-at : goal.decreases-loop-at

@@ -1,7 +1,7 @@
 use Rattle.std.proofs.Common.{◌∙◌, Ok, ap, refl}
 use Rattle.search_text.specs.AnswerText.{fault_text}
 use Rattle.search_text.specs.Answers as A
-use Rattle.search_text.proofs.answers.answer_of.Goals as goal
+use Rattle.search_text.proofs.answers.sought_answer.Goals as goal
 
 pub returns-in_ok-fault_text-in-Ok-Fault : goal.returns-in_ok-fault_text-in-Ok-Fault
 returns-in_ok-fault_text-in-Ok-Fault c =

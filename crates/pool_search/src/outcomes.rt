@@ -1,0 +1,239 @@
+//! All outcomes of a program: what its runs write until they end, and how they end.
+ghost use Rattle.std.specs.Prelude.{◌≡◌, ◌<◌, ◌≤◌, ◌+◌, ◌⊎◌, ◌++◌, ℕ, List, [], Ok, length, slice_get, IfOk, IfSome, OnOk, true, false};
+ghost use Rattle.std.specs.Global.{Global};
+ghost use Rattle.std.specs.declared.vec.Vec.{Vec};
+ghost use Rattle.run_types.specs.Tables.{Each};
+ghost use Rattle.run_types.specs.declared.types.Label.{Label};
+ghost use Rattle.pool_syntax.specs.TreeOf.{program_of};
+ghost use Rattle.pool_semantics.specs.PlainOf.{configuration_of, program_tree, is_spent};
+ghost use Rattle.search_laws.specs.Tried.{with_writes};
+ghost use Rattle.pool_search.specs.Courses.{course_of};
+ghost use Rattle.pool_search.specs.Entries.{entries, searched};
+ghost use Rattle.pool_search.specs.FoundOutcomes.{IsNoted, IsShownRun};
+ghost use Rattle.pool_search.specs.OutcomeTargets.{IsShown, IsRunOf, HasAllOutcomes};
+ghost use Rattle.pool_search.specs.Progress.{AllReached, HasSearched, IsSearchedTo};
+ghost use Rattle.pool_search.specs.declared.outcomes.Outcome.{Outcome as OneOutcome};
+
+use crate::ends::{Ends, kind_of, written_by};
+use crate::explored::Explored;
+use crate::retracing::{retrace, way_to};
+use crate::scope::{Keeps, Scope};
+use crate::searching::begin;
+use class_check::Checked;
+use pool_semantics::Plain;
+use run_types::{Item, Label};
+use std::alloc::{AllocError, Global};
+
+/// How a run ends. The first of these that applies is its kind.
+#[derive(Clone, Copy)]
+pub enum EndKind {
+    /// An object has met a run-time error.
+    Fault,
+    /// An object is in a call.
+    Stuck,
+    /// An object waits at `answer` or `select`, or a message was not accepted.
+    Left,
+    /// Nothing is left.
+    Done,
+}
+
+/// An outcome of a program: how a run ends, and the items that it wrote until then, in order.
+#[derive(Drop)]
+pub struct Outcome {
+    pub kind: EndKind,
+    pub items: Vec<Item>,
+}
+
+/// The outcomes that a search found.
+#[derive(Drop)]
+pub struct Outcomes {
+    /// The outcomes, in the order in which they were found.
+    pub list: Vec<Outcome>,
+    /// Whether the list is complete. It is not if the search met a bound.
+    pub whole: bool,
+    /// The number of configurations that the search kept, but at most `most`.
+    pub kept: u32,
+}
+
+/// A run with one of the outcomes, or the end of the search if there is no such outcome.
+#[derive(Drop)]
+pub enum OutcomeRun {
+    /// The outcome, and the labels of a run with this outcome. The first object has the name 0.
+    Shown {
+        outcome: Outcome,
+        labels: Vec<Label>,
+    },
+    /// The list of outcomes is complete, and this one is not in it. The number of configurations that the search kept.
+    Finite(u32),
+    /// The search met a bound. The number of configurations that it kept, but at most `most`.
+    Over(u32),
+}
+
+/// What a search for outcomes keeps, and how much.
+fn scope_of(most: u32) -> Scope
+    ensures { (result.most ≡ most) × (course_of result.keeps ≡ with_writes) }
+{
+    Scope {
+        keeps: Keeps::Writes,
+        most,
+    }
+}
+
+/// Notes the outcome of an entry, if it is an end. An error means out of memory.
+fn note_end(
+    explored: &Explored<'_>,
+    plain: &Plain<'_>,
+    at: u32,
+    ends: &mut Ends,
+) -> Result<(), AllocError>
+    requires exists { at < length (entries explored.now) }
+    requires fresh { is_spent plain.now ≡ false }
+    requires there { IfSome (slice_get (entries explored.now) at) (λ e. configuration_of plain.now ≡ e.configuration) }
+    requires program { program_tree plain.now ≡ searched explored.now }
+    requires reached { AllReached (searched explored.now) with_writes (entries explored.now) }
+    ensures noted { OnOk result (IfSome (slice_get (entries explored.now) at) (λ e. IsNoted (searched explored.now) ends.new.list.items e)) }
+    ensures grown { OnOk result ((added : List OneOutcome) × (ends.new.list.items ≡ ends.old.list.items ++ added)) }
+    ensures shown { OnOk result (Each (IsShown (searched explored.now)) ends.old.list.items → Each (IsShown (searched explored.now)) ends.new.list.items) }
+{
+    if plain.moving().is_some() {
+        return Ok(());
+    }
+    let items = explored.kept.items(at as usize)?;
+    ends.note(kind_of(plain), items, at)
+}
+
+/// Visits an entry: notes its outcome, and tries all its labels. `false` if a bound is met. An error means out of memory.
+fn visit(
+    alloc: Global,
+    explored: &mut Explored<'_>,
+    at: u32,
+    most: u32,
+    ends: &mut Ends,
+) -> Result<bool, AllocError>
+    requires exists { at < length (entries explored.old) }
+    requires reached { AllReached (searched explored.old) with_writes (entries explored.old) }
+    ensures program { searched explored.new ≡ searched explored.old }
+    ensures grown { OnOk result ((added : List OneOutcome) × (ends.new.list.items ≡ ends.old.list.items ++ added)) }
+    ensures shown { OnOk result (Each (IsShown (searched explored.old)) ends.old.list.items → Each (IsShown (searched explored.old)) ends.new.list.items) }
+    ensures done { result ≡ Ok true
+        → HasSearched (searched explored.old) with_writes most (IsNoted (searched explored.old) ends.new.list.items) (entries explored.old) (entries explored.new) at }
+{
+    let next = explored.kept.next_name(at as usize);
+    let mut plain = explored.kept.configuration(at as usize)?;
+    note_end(explored, &plain, at, ends)?;
+    explored.expand(alloc, &mut plain, at, next, scope_of(most))
+}
+
+/// Visits the entries in order, and then those that were added meanwhile. Whether all were visited: `false` if a bound
+/// is met. An error means out of memory.
+fn visit_all(
+    alloc: Global,
+    explored: &mut Explored<'_>,
+    most: u32,
+    ends: &mut Ends,
+) -> Result<bool, AllocError>
+    requires begun { IsSearchedTo (searched explored.old) with_writes (IsNoted (searched explored.old) ends.old.list.items) (entries explored.old) 0 }
+    requires within { length (entries explored.old) ≤ most }
+    requires none { ends.old.list.items ≡ [] }
+    ensures program { searched explored.new ≡ searched explored.old }
+    ensures shown { IfOk result (λ _. Each (IsShown (searched explored.old)) ends.new.list.items) }
+    ensures whole { result ≡ Ok true
+        → IsSearchedTo (searched explored.old) with_writes (IsNoted (searched explored.old) ends.new.list.items) (entries explored.new) (length (entries explored.new)) }
+{
+    let mut at = 0;
+    while (at as usize) < explored.kept.len() {
+        match visit(alloc, explored, at, most, ends) {
+            Ok(true) => at += 1,
+            Ok(false) => return Ok(false),
+            Err(_) => return Err(AllocError),
+        }
+    }
+    Ok(true)
+}
+
+/// Searches all runs of a program for their outcomes. An error means out of memory.
+/// The search is breadth-first, so the outcomes come in the order of the fewest kept configurations.
+/// The list is not complete if more than `most` configurations would be kept,
+/// if 1,000,000 transitions that need no choice follow one another, or if no number of 32 bits is left.
+pub fn all_outcomes(alloc: Global, program: &Checked<'_>, most: u32) -> Result<Outcomes, AllocError>
+    ensures shown { IfOk result (λ r. Each (IsShown (program_of program.now.program.now)) r.list.items) }
+    ensures all { IfOk result (λ r. r.whole ≡ true → HasAllOutcomes (program_of program.now.program.now) r.list.items) }
+    ensures within { IfOk result (λ r. r.kept ≤ most) }
+{
+    let mut ends = Ends::make(alloc);
+    let Some(mut explored) = begin(alloc, program, scope_of(most))? else {
+        return Ok(Outcomes {
+            list: ends.list,
+            whole: false,
+            kept: 0,
+        });
+    };
+    let whole = visit_all(alloc, &mut explored, most, &mut ends)?;
+    Ok(Outcomes {
+        list: ends.list,
+        whole,
+        kept: explored.count(most),
+    })
+}
+
+/// The run of these indexes as a run with an outcome. None if the run cannot be repeated, or a label is possible at its
+/// end. An error means out of memory.
+fn show_run(
+    alloc: Global,
+    program: &Checked<'_>,
+    way: &[u32],
+) -> Result<Option<OutcomeRun>, AllocError>
+    ensures { IfOk result (λ r. IfSome r (λ s. IsShownRun (program_of program.now.program.now) s)) }
+{
+    let mut plain = Plain::make(alloc, program, 0)?;
+    let mut labels = Vec::new(alloc);
+    if !retrace(alloc, &mut plain, Keeps::Writes, way, &mut labels)? {
+        return Ok(None);
+    }
+    if plain.moving().is_some() {
+        return Ok(None);
+    }
+    let items = written_by(alloc, &labels)?;
+    Ok(Some(OutcomeRun::Shown {
+        outcome: Outcome {
+            kind: kind_of(&plain),
+            items,
+        },
+        labels,
+    }))
+}
+
+/// A run with the outcome at this place in the list that `all_outcomes` gives, counted from 0. An error means out of
+/// memory.
+pub fn outcome_run(
+    alloc: Global,
+    program: &Checked<'_>,
+    most: u32,
+    place: u32,
+) -> Result<OutcomeRun, AllocError>
+    ensures shown { IfOk result (λ r. (o : OneOutcome) (ls : Vec Label Global) → r ≡ OutcomeRun.Shown o ls → IsRunOf (program_of program.now.program.now) o ls.items) }
+    ensures finite { IfOk result (λ r. (k : ℕ) → r ≡ OutcomeRun.Finite k → (os : List OneOutcome) × HasAllOutcomes (program_of program.now.program.now) os × (length os ≤ place)) }
+    ensures within { IfOk result (λ r. (k : ℕ) → (r ≡ OutcomeRun.Finite k) ⊎ (r ≡ OutcomeRun.Over k) → k ≤ most) }
+{
+    let mut ends = Ends::make(alloc);
+    let Some(mut explored) = begin(alloc, program, scope_of(most))? else {
+        return Ok(OutcomeRun::Over(0));
+    };
+    let whole = visit_all(alloc, &mut explored, most, &mut ends)?;
+    let kept = explored.count(most);
+    if ends.list.len() <= place as usize {
+        return Ok(if whole {
+            OutcomeRun::Finite(kept)
+        } else {
+            OutcomeRun::Over(kept)
+        });
+    }
+    let Some(at) = ends.places.as_slice().get(place as usize) else {
+        return Ok(OutcomeRun::Over(kept));
+    };
+    let way = way_to(alloc, &explored.origins, *at)?;
+    match show_run(alloc, program, &way)? {
+        Some(run) => Ok(run),
+        None => Ok(OutcomeRun::Over(kept)),
+    }
+}

@@ -1,0 +1,234 @@
+"""The outcomes of a program: what its runs have written when no transition is possible any more, and how they end.
+
+This is an independent reading of docs/REFERENCE.md, on the configurations of model.py. It is a plain search over all interleavings: in each
+configuration each transition is tried, of whatever object, and nothing is left out or made first. What was written belongs to what is
+kept, so two runs to one configuration that wrote different items are two.
+
+A configuration is kept as two tuples. The first has a number for the state of each object, in the order of creation; the root comes
+first. The second has the pairs of objects with messages that were not taken. A state of an object is kept once, and so is what a
+transition makes of the states and messages that it concerns.
+
+An outcome is (kind, items). The items are a tuple of words, as in a record.
+"""
+import streams
+from model import WORD, Configuration, Object, Stop, name_of, number_of, redex_of, transition_of
+from parser import parse
+
+KINDS = ("fault", "stuck", "left", "done")
+# The transitions that concern two objects and their messages.
+OF_PAIRS = {"answer", "return", "send", "take"}
+
+
+def kind_of(configuration):
+    """How a run ends in this configuration, where no transition is possible."""
+    actions = {configuration.action(name)[0] for name in configuration.objects}
+    if "faulted" in actions:
+        return "fault"
+    if actions & {"send", "waits"}:
+        return "stuck"
+    return "left" if actions & {"answer", "select"} or any(configuration.mail.values()) else "done"
+
+
+def ending_of(configuration):
+    """The same. Here model.py has to find as well that no object can go on."""
+    assert not any(map(configuration.can_move, configuration.objects))
+    return kind_of(configuration)
+
+
+def copied(part):
+    """A copy of a part of an object: its stores can be changed, and the original stays."""
+    return type(part)(map(copied, part)) if isinstance(part, (list, tuple)) else part
+
+
+def copy_of(object_):
+    made = Object(object_.made)
+    made.variables, made.rest, made.error = copied(object_.variables), copied(object_.rest), object_.error
+    return made
+
+
+class Interleavings:
+    """The configurations of a program, and the transitions between them."""
+
+    def __init__(self, program):
+        self.classes = parse(program)
+        self.states, self.numbers, self.known, self.made = [], {}, {}, {}
+        self.start = ((self.number(Configuration(self.classes, 0).objects[0]),), ())
+
+    def number(self, object_):
+        """The number of the state of an object."""
+        # (as text, since 1 and true are equal in Python)
+        key = (object_.made.name, object_.error, repr(object_.variables), repr(object_.rest))
+        if key not in self.numbers:
+            self.numbers[key] = len(self.states)
+            self.states.append(object_)
+        return self.numbers[key]
+
+    def configuration(self, objects, mail):
+        """These objects, which are pairs of a name and a number, and these messages, as a configuration of model.py."""
+        made = Configuration(self.classes, 0)
+        made.objects = {name: copy_of(self.states[number]) for name, number in objects}
+        made.mail = {pair: list(messages) for pair, messages in mail}
+        return made
+
+    def whole(self, configuration):
+        return self.configuration(enumerate(configuration[0]), configuration[1])
+
+    def own_labels(self, place, number, count):
+        """The words of each transition that the next action of an object may be, where there are so many objects."""
+        words = self.configuration([(place, number)], ()).action(place)
+        kind, name = words[0], name_of(place)
+        if kind == "local":
+            return [(kind, name)]
+        if kind == "new":
+            return [(kind, name, name_of(count), words[1])]
+        if kind == "send":
+            return [("answer", words[1], name, *words[2:])]
+        if kind == "async":
+            return [("send", name, *words[1:])]
+        if kind == "select":
+            return [("pick", name, str(place)) for place, _ in enumerate(redex_of(self.states[number])[1], 1)]
+        return [(kind, name, *words[1:])] if kind in ("write", "return", "fault") else []
+
+    def labels(self, configuration):
+        """The words of each transition that may be possible: of the objects, and of the messages."""
+        objects, mail = configuration
+        for place, number in enumerate(objects):
+            key = (place, number, len(objects))
+            if key not in self.known:
+                self.known[key] = self.own_labels(*key)
+            yield from self.known[key]
+        for (sender, receiver), messages in mail:
+            for method, values in dict.fromkeys(messages):
+                yield ("take", name_of(receiver), name_of(sender), method, *values)
+
+    def make(self, words, objects, pair, messages):
+        """The states of these objects after a transition, with the objects that it made, and the messages of the pair; None where it is
+        not possible."""
+        configuration = self.configuration(objects, [(pair, [(method, list(values)) for method, values in messages])])
+        try:
+            configuration.make(list(words))
+        except Stop:
+            return None
+        states = [(name, self.number(object_)) for name, object_ in configuration.objects.items()]
+        return states, tuple((method, tuple(values)) for method, values in configuration.mail.get(pair, []))
+
+    def after(self, configuration, words):
+        """The configuration after a transition, or None where it is not possible."""
+        objects, mail = configuration
+        names = [number_of(word) for word in words[1 : 3 if words[0] in OF_PAIRS else 2]]
+        pair = (names[-1], names[0]) if words[0] in ("answer", "take") else (names[0], names[-1])
+        messages = next((messages for its, messages in mail if its == pair), ())
+        key = (words, *(objects[name] for name in names), messages)
+        if key not in self.made:
+            self.made[key] = self.make(words, [(name, objects[name]) for name in names], pair, messages)
+        if not self.made[key]:
+            return None
+        states, left = self.made[key]
+        changed = dict(enumerate(objects))
+        changed.update(states)
+        if left != messages:
+            mail = tuple(sorted([it for it in mail if it[0] != pair] + [(pair, left)] * bool(left)))
+        return tuple(changed[name] for name in range(len(changed))), mail
+
+    def nexts(self, configuration):
+        """Of each possible transition the items that it writes, and the configuration after it."""
+        found = []
+        for words in self.labels(configuration):
+            after = self.after(configuration, words)
+            if after:
+                found.append((words[2:] if words[0] == "write" else (), after))
+        return found
+
+    def has_endless_object(self):
+        """Whether an object was met that can make local transitions for ever, and comes back to the same state again and again."""
+        local = {(key[0], key[1]): made[0][0][1] for key, made in self.made.items() if made and key[0][0] == "local"}
+        for words, number in local:
+            seen = set()
+            while (words, number) in local and number not in seen:
+                seen.add(number)
+                number = local[words, number]
+            if number in seen:
+                return True
+        return False
+
+
+class Search:
+    """The outcomes of a program. These are all if no more than `most` pairs of a configuration and what was written are met."""
+
+    def __init__(self, program, most):
+        self.runs, self.found = Interleavings(program), set()
+        # (of each configuration its number, the transitions from it, and where there are none how a run ends)
+        numbers, configurations, nexts, kinds = {self.runs.start: 0}, [self.runs.start], [], {}
+        met, waiting = {(0, ())}, [(0, ())]
+        while waiting and len(met) <= most:
+            number, items = waiting.pop()
+            while len(nexts) <= number:
+                nexts.append(None)
+            if nexts[number] is None:
+                nexts[number] = []
+                for more, after in self.runs.nexts(configurations[number]):
+                    if after not in numbers:
+                        numbers[after] = len(configurations)
+                        configurations.append(after)
+                    nexts[number].append((more, numbers[after]))
+                if not nexts[number]:
+                    kinds[number] = ending_of(self.runs.whole(configurations[number]))
+            if not nexts[number]:
+                self.found.add((kinds[number], items))
+            for more, after in nexts[number]:
+                pair = (after, items + more)
+                if pair not in met:
+                    met.add(pair)
+                    waiting.append(pair)
+        self.is_whole, self.met = not waiting, len(met)
+
+
+# ---- the lines of the commands
+
+
+def outcome_of(line):
+    """The outcome that a line tells, or None where it has no form."""
+    words = WORD.findall(line)
+    if words[:1] != ["wrote"] or words[1:2] == [] or words[1] not in KINDS or " ".join(words) != line:
+        return None
+    return (words[1], tuple(words[2:])) if all(map(streams.is_item, words[2:])) else None
+
+
+def renamed(outcome, root="0.0"):
+    """The outcome with its objects numbered as they come in it. Those of two outcomes are equal if a one-to-one map leads from the names
+    of the one to those of the other. The root keeps its name: it comes first in each run."""
+    kind, items = outcome
+    names = {root: "root"}
+    return kind, tuple(names.setdefault(item, f"object {len(names)}") if streams.is_object(item) else item for item in items)
+
+
+class NoRun(Exception):
+    """Says why lines are not a run with an outcome."""
+
+
+def outcome_of_run(program, steps):
+    """The outcome of the run of these lines, and the number of its transitions that are not local. Raises NoRun where they are no run from
+    the start to where no transition is possible."""
+    configuration, items, others, before = Configuration(parse(program), 0), [], 0, None
+    for number, line in enumerate(steps, 1):
+        # (behind the word `step` comes what an event line has behind its event)
+        event = "1 turn 0 " + line[len("step ") :]
+        shown = transition_of(event) if line.startswith("step ") and streams.number_in(event) == 1 else None
+        if not shown:
+            raise NoRun(f"line {number} has no form: {line}")
+        words, times = shown
+        if words == before and words[0] == "local":
+            raise NoRun(f"line {number} has local transitions that belong to the line before it: {line}")
+        if words[0] == "new" and number_of(words[2]) != len(configuration.objects):
+            raise NoRun(f"line {number} does not name the object in the order of creation: {line}")
+        for _ in range(times):
+            try:
+                configuration.make(words)
+            except Stop:
+                raise NoRun(f"line {number} is not possible: {line}") from None
+        items += words[2:] * (words[0] == "write")
+        others, before = others + (words[0] != "local"), words
+    moving = [name_of(name) for name in sorted(configuration.objects) if configuration.can_move(name)]
+    if moving:
+        raise NoRun(f"a transition of {moving[0]} is possible at the end")
+    return (kind_of(configuration), tuple(items)), others
