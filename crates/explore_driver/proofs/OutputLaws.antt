@@ -31,8 +31,7 @@ use Rattle.pool_outside.specs.Reading.{AllRead, Reading}
 use Rattle.record_check.specs.RecordJudgement.{Judged}
 use Rattle.search_text.specs.declared.answers.Found.{Found}
 use Rattle.search_text.specs.declared.answers.Found.TheVariants as O
-use Rattle.search_text.specs.declared.answers.Question.{Question}
-use Rattle.search_text.specs.Answers.{IsAnswerTo}
+use Rattle.search_text.specs.Answers.{Inquiry, IsAnswerTo}
 use Rattle.explore_driver.specs.declared.outputs.Output.{Output}
 use Rattle.explore_driver.specs.declared.words.Shown.{Shown}
 use Rattle.explore_driver.specs.declared.words.Shown.TheVariants as Sh
@@ -43,7 +42,7 @@ use Rattle.explore_driver.specs.Words.{Request, of_fill, of_follow, of_search, o
 
 -- the inputs of a command, one after another
 
-abbrev pub reaches_program : (k : Reading) (q : Question) (name : Text) → k.opened ≡ k.opens + 1 → Reaches explore_program k (of_search q name) I.Program name
+abbrev pub reaches_program : (k : Reading) (q : Inquiry) (name : Text) → k.opened ≡ k.opens + 1 → Reaches explore_program k (of_search q name) I.Program name
 reaches_program k q name h = record { before = []; behind = []; texts = []; place = refl; accepted = tt; opened = h }
 
 abbrev pub reaches_watched : (k : Reading) (shown : Shown) (name other : Text) → k.opened ≡ k.opens + 1 → Reaches explore_program k (of_watch shown name other) I.Program name
@@ -69,7 +68,7 @@ pub makes_for : (k : Reading) (q r : Request) (result : Result Output InputError
 makes_for k q r result e h = subst (λ (x : Request). ResultsIn k x result) e h
 
 -- what comes of a program
-pub search_makes : (k : Reading) (q : Question) (name s : Text) (read : Parsed) (o : Output) (found : Found) → IsReadAs k.told I.Program name s → IsProgramOf s read
+pub search_makes : (k : Reading) (q : Inquiry) (name s : Text) (read : Parsed) (o : Output) (found : Found) → IsReadAs k.told I.Program name s → IsProgramOf s read
     → faults (program_of read.program) ≡ [] → k.opened ≡ k.opens + 1 → length s ≡ k.given → k.live ≡ false → AllRead k → IsAnswerTo read.names (program_of read.program) q o.text.items found
     → o.status ≡ status_of_found found → ResultsIn k (of_search q name) (Ok o)
 search_makes k q name s read o found first is typed opened given ended calm answers status = D.made o refl (record {

@@ -1,5 +1,6 @@
 -- The request that the parsed arguments of the code represent.
 use Rattle.std.specs.Prelude.{◌≤◌}
+use Rattle.search_text.specs.Inquiries.{inquiry}
 use Rattle.explore_driver.specs.declared.words.Asked.{Asked}
 use Rattle.explore_driver.specs.declared.words.Asked.TheVariants as A
 use Rattle.explore_driver.specs.declared.words.Command.{Command}
@@ -10,7 +11,7 @@ use Rattle.explore_driver.specs.Words.{Request, of_fill, of_follow, of_search, o
 
 -- the request, with names as texts
 abbrev pub request : Asked → Request
-request (A.Search question name) = of_search question name.now
+request (A.Search question name) = of_search (inquiry question) name.now
 request (A.Watch shown program record_name) = of_watch shown program.now record_name.now
 request (A.Fill program record_name) = of_fill program.now record_name.now
 

@@ -14,8 +14,7 @@ use Rattle.command_shell.specs.Verdicts.{status_of_verdict}
 use Rattle.record_check.specs.RecordJudgement.{Judged}
 use Rattle.search_text.specs.declared.answers.Found.{Found}
 use Rattle.search_text.specs.declared.answers.Found.TheVariants as O
-use Rattle.search_text.specs.declared.answers.Question.{Question}
-use Rattle.search_text.specs.Answers.{IsAnswerTo}
+use Rattle.search_text.specs.Answers.{Inquiry, IsAnswerTo}
 use Rattle.record_fill.specs.Filled.{IsFilled}
 use Rattle.record_writer.specs.RecordText.{record_text}
 use Rattle.watch_text.specs.WatchedRun.{IsWatched, IsWatchedPart}
@@ -33,7 +32,7 @@ status_of_found O.Run = S.Done
 status_of_found O.Missing = S.DoneFaulted
 
 -- the source is a program without class faults, and the text is the answer of the search for it
-pub record IsAnswerOn (q : Question) (source text : Text) (status : Status) : Type 0 where
+pub record IsAnswerOn (q : Inquiry) (source text : Text) (status : Status) : Type 0 where
   pub names : List Text
   pub program : ProgramTree
   pub parsed : IsParsed source names program

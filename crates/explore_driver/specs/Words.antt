@@ -6,15 +6,14 @@ use Rattle.text_scan.specs.declared.spans.Decimal.{Decimal}
 use Rattle.text_scan.specs.declared.spans.Decimal.TheVariants as Number
 use Rattle.pool_search.specs.declared.queries.Target.{Target}
 use Rattle.pool_search.specs.declared.queries.Target.TheVariants as W
-use Rattle.search_text.specs.declared.answers.Question.{Question}
-use Rattle.search_text.specs.declared.answers.Question.TheVariants as Q
+use Rattle.search_text.specs.Answers.{Inquiry, of_grade, of_outcome, of_outcomes, of_query}
 use Rattle.explore_driver.specs.declared.words.Shown.{Shown}
 use Rattle.explore_driver.specs.declared.words.Shown.TheVariants as Sh
 
 -- A command: a search of the program of this name; the record of this name, shown as a run of the program; the record
 -- with local transitions filled in; or the stream of this name, followed as a run of the program.
 pub data Request : Type 0 where
-  of_search : (question : Question) (name : Text) → Request
+  of_search : (question : Inquiry) (name : Text) → Request
   of_watch : (shown : Shown) (name record_name : Text) → Request
   of_fill : (name record_name : Text) → Request
   of_follow : (name stream_name : Text) → Request
@@ -37,17 +36,17 @@ most_of (Number.Value k) = if nat_le 1 k && nat_le k 10000000 then Some k else N
 abbrev pub search_for : Target → Bool → Text → Text → Option Request
 search_for wanted all name n =
     if is_dashed name then None
-    else option_map (λ most. of_search (Q.Sought (record { wanted = wanted; all = all; most = most })) name) (most_of (decimal_of n))
+    else option_map (λ most. of_search (of_query (record { wanted = wanted; all = all; most = most })) name) (most_of (decimal_of n))
 
 -- the search for all outcomes
 abbrev pub outcomes_for : Text → Text → Option Request
-outcomes_for name n = if is_dashed name then None else option_map (λ most. of_search (Q.Outcomes most) name) (most_of (decimal_of n))
+outcomes_for name n = if is_dashed name then None else option_map (λ most. of_search (of_outcomes most) name) (most_of (decimal_of n))
 
 -- the search for a run with the outcome at this place, from 1 to 10,000,000
 abbrev pub run_for : Text → Text → Text → Option Request
 run_for j name n =
     if is_dashed name then None
-    else option_and_then (λ place. option_map (λ most. of_search (Q.Run place most) name) (most_of (decimal_of n))) (most_of (decimal_of j))
+    else option_and_then (λ place. option_map (λ most. of_search (of_outcome place most) name) (most_of (decimal_of n))) (most_of (decimal_of j))
 
 -- `stuck` or `fault`, or neither for both, and then `all`, which is optional; or `writes`; or `run` and the place of an
 -- outcome. Then the name of a file, and a bound.
@@ -64,6 +63,11 @@ search_of (a ∷ b ∷ name ∷ n ∷ []) =
     else if bytes_eq b (codes "all") then option_and_then (λ wanted. search_for wanted true name n) (wanted_of a)
     else None
 search_of (a ∷ b ∷ c ∷ d ∷ e ∷ ws) = None
+
+-- the name of a file, a bound, and the outputs that are allowed
+abbrev pub grade_of : List Text → Option Request
+grade_of (name ∷ n ∷ allowed) = if is_dashed name then None else option_map (λ most. of_search (of_grade allowed most) name) (most_of (decimal_of n))
+grade_of _ = None
 
 -- the lines from the first number up to the last
 abbrev pub lines_of : Text → Text → Decimal → Decimal → Option Request
@@ -98,6 +102,7 @@ follow_of ws = pair_of of_follow ws
 abbrev pub command_of : Text → List Text → Option Request
 command_of c ws =
     if bytes_eq c (codes "search") then search_of ws
+    else if bytes_eq c (codes "grade") then grade_of ws
     else if bytes_eq c (codes "watch") then watch_of ws
     else if bytes_eq c (codes "waits") then pair_of (of_watch Sh.Waits) ws
     else if bytes_eq c (codes "fill") then pair_of of_fill ws

@@ -6,6 +6,7 @@ ghost use Rattle.command_shell.specs.Ends.{StaysWithin};
 ghost use Rattle.command_shell.specs.Programs.{MayOpen};
 ghost use Rattle.pool_outside.specs.Reading.{reading};
 ghost use Rattle.pool_syntax.specs.TreeOf.{program_of};
+ghost use Rattle.search_text.specs.Inquiries.{inquiry};
 ghost use Rattle.explore_driver.specs.AskedRequest.{IsOrdered, IsSized, request};
 ghost use Rattle.explore_driver.specs.Ends.{inputs};
 ghost use Rattle.explore_driver.specs.Outputs.{IsFilledText, IsTextOf, status_of_found};
@@ -50,13 +51,13 @@ fn status_of_found(found: Found) -> Status
 fn search_output<F: Files>(
     alloc: Global,
     files: &mut F,
-    question: &Question,
+    question: &Question<'_>,
     name: &str,
 ) -> Result<Output, InputError>
     requires countable { F.opens files.old ≤ 2 ^ 64 - 5 }
-    requires allowed { MayOpen (F.may files.old) (F.opens files.old) (inputs (of_search question.now name.now)) }
-    ensures makes { ResultsIn (reading F.told F.opens F.given F.live F.faults files.old files.new) (of_search question.now name.now) result }
-    ensures unread_within { StaysWithin (reading F.told F.opens F.given F.live F.faults files.old files.new) (inputs (of_search question.now name.now)) }
+    requires allowed { MayOpen (F.may files.old) (F.opens files.old) (inputs (of_search (inquiry question.now) name.now)) }
+    ensures makes { ResultsIn (reading F.told F.opens F.given F.live F.faults files.old files.new) (of_search (inquiry question.now) name.now) result }
+    ensures unread_within { StaysWithin (reading F.told F.opens F.given F.live F.faults files.old files.new) (inputs (of_search (inquiry question.now) name.now)) }
 {
     let parsed = match read_parsed(alloc, files, name) {
         Ok(parsed) => parsed,

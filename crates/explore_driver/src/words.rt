@@ -1,7 +1,7 @@
 //! Reads the arguments of a command.
 ghost use Rattle.std.specs.Prelude.{◌≡◌, [], ◌∷◌, option_map, IfSome};
 ghost use Rattle.text_scan.specs.Lines.{decimal_of};
-ghost use Rattle.explore_driver.specs.Words.{command_of, follow_of, is_dashed, lines_of, most_of, of_fill, of_follow, of_watch, outcomes_for, pair_of, request_of, run_for, search_for, search_of, texts_of, wanted_of, watch_of};
+ghost use Rattle.explore_driver.specs.Words.{command_of, follow_of, grade_of, is_dashed, lines_of, most_of, of_fill, of_follow, of_watch, outcomes_for, pair_of, request_of, run_for, search_for, search_of, texts_of, wanted_of, watch_of};
 ghost use Rattle.explore_driver.specs.AskedRequest.{IsOrdered, IsSized, IsSizedCommand, request, wanted};
 
 use pool_search::{Query, Target};
@@ -32,7 +32,7 @@ pub enum Shown {
 pub enum Asked<'a> {
     /// Search the runs of the program.
     Search {
-        question: Question,
+        question: Question<'a>,
         name: &'a str,
     },
     /// Show the record as a run of the program.
@@ -202,6 +202,27 @@ fn search_of<'a>(words: &'a [String]) -> Option<Asked<'a>>
     }
 }
 
+/// The grading of the arguments after the first: a name, a bound, and the outputs that are allowed. None if they are not
+/// one.
+fn grade_of<'a>(words: &'a [String]) -> Option<Asked<'a>>
+    ensures request { option_map request result ≡ grade_of (texts_of words.now) }
+    ensures sized { IfSome result (λ asked. IsSized asked) }
+{
+    let [name, word, allowed @ ..] = words else {
+        return None;
+    };
+    if is_dashed(name.as_str()) {
+        return None;
+    }
+    match most_of(word.as_str()) {
+        Some(most) => Some(Asked::Search {
+            question: Question::Graded { allowed, most },
+            name: name.as_str(),
+        }),
+        None => None,
+    }
+}
+
 /// The lines from one number up to another. None if one of them is not a number, the first is 0, or the last is smaller
 /// than the first.
 fn lines_of<'a>(
@@ -358,6 +379,7 @@ fn command_of<'a>(word: &str, words: &'a [String]) -> Option<Command<'a>>
 {
     match word {
         "search" => text_command(search_of(words)),
+        "grade" => text_command(grade_of(words)),
         "watch" => text_command(watch_of(words)),
         "waits" => text_command(waits_of(words)),
         "fill" => text_command(fill_of(words)),

@@ -61,6 +61,10 @@ abbrev pub ending : Bool → ℕ → Text
 ending true kept = finite_text kept
 ending false kept = over_text kept
 
+-- a run with its outcome, and the number of its transitions that are not local
+abbrev pub wrong_text : List Text → Outcome → List Label → Text
+wrong_text names o ls = steps_text names (steps ls) ++ (outcome_line names o ++ end_line (kind_word o.kind) (other_than_local ls))
+
 -- a run that ends in this way, and the number of its transitions that are not local
 abbrev pub run_text : List Text → EndKind → List Label → Text
 run_text names k ls = steps_text names (steps ls) ++ end_line (kind_word k) (other_than_local ls)

@@ -8,9 +8,8 @@ use Rattle.pool_search.specs.SearchTargets.{LeadsTo, IsWantedStuck, IsWantedFaul
 use Rattle.run_types.specs.Tables.{Each}
 use Rattle.pool_search.specs.declared.outcomes.Outcome.{Outcome}
 use Rattle.pool_search.specs.OutcomeTargets.{HasAllOutcomes, IsRunOf, IsShown}
-use Rattle.search_text.specs.AnswerText.{ending, fault_text, finite_text, outcomes_text, over_text, run_text, stuck_text}
-use Rattle.search_text.specs.declared.answers.Question.{Question}
-use Rattle.search_text.specs.declared.answers.Question.TheVariants as Q
+use Rattle.search_text.specs.AnswerText.{ending, fault_text, finite_text, outcomes_text, over_text, run_text, stuck_text, wrong_text}
+use Rattle.search_text.specs.Grading.{is_allowed}
 use Rattle.waiting_objects.specs.Waiting.{waiting_rows}
 use Rattle.search_text.specs.declared.answers.Found.{Found}
 use Rattle.search_text.specs.declared.answers.Found.TheVariants as O
@@ -49,8 +48,25 @@ pub data ShowsRun (names : List Text) (p : ProgramTree) (place most : ℕ) (text
   missing : (list : List Outcome) (kept : ℕ) → HasAllOutcomes p list → length list ≤ place - 1 → kept ≤ most → text ≡ finite_text kept → found ≡ O.Missing → ShowsRun names p place most text found
   unknown : (kept : ℕ) → kept ≤ most → text ≡ over_text kept → found ≡ O.Over → ShowsRun names p place most text found
 
+-- The grade of a program. Each run that comes to its end has an outcome that is allowed, under any names of objects; or a
+-- run from the start has one that is not. Or the list of outcomes may not be complete.
+pub data Grades (names : List Text) (p : ProgramTree) (allowed : List Text) (most : ℕ) (text : Text) (found : Found) : Type 0 where
+  passes : (list : List Outcome) (kept : ℕ) → HasAllOutcomes p list → Each (IsShown p) list → Each (λ o. is_allowed allowed names o ≡ true) list → kept ≤ most
+      → text ≡ outcomes_text names list ++ finite_text kept → found ≡ O.Finite → Grades names p allowed most text found
+  fails : (o : Outcome) (ls : List Label) → IsRunOf p o ls → is_allowed allowed names o ≡ false → text ≡ wrong_text names o ls → found ≡ O.Shown → Grades names p allowed most text found
+  unknown : (list : List Outcome) (kept : ℕ) → Each (IsShown p) list → kept ≤ most → text ≡ outcomes_text names list ++ over_text kept → found ≡ O.Over → Grades names p allowed most text found
+
+-- A question: is there a run of this kind; what are all outcomes; is there a run with the outcome at this place; does each
+-- run that comes to its end write one of these outputs. The number is the bound on kept configurations.
+pub data Inquiry : Type 0 where
+  of_query : Query → Inquiry
+  of_outcomes : (most : ℕ) → Inquiry
+  of_outcome : (place most : ℕ) → Inquiry
+  of_grade : (allowed : List Text) (most : ℕ) → Inquiry
+
 -- the answer to a question
-abbrev pub IsAnswerTo : List Text → ProgramTree → Question → Text → Found → Type 0
-IsAnswerTo names p (Q.Sought q) text found = Answers names p q text found
-IsAnswerTo names p (Q.Outcomes most) text found = TellsOutcomes names p most text found
-IsAnswerTo names p (Q.Run place most) text found = ShowsRun names p place most text found
+abbrev pub IsAnswerTo : List Text → ProgramTree → Inquiry → Text → Found → Type 0
+IsAnswerTo names p (of_query q) text found = Answers names p q text found
+IsAnswerTo names p (of_outcomes most) text found = TellsOutcomes names p most text found
+IsAnswerTo names p (of_outcome place most) text found = ShowsRun names p place most text found
+IsAnswerTo names p (of_grade allowed most) text found = Grades names p allowed most text found

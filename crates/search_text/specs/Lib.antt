@@ -1,6 +1,9 @@
 -- Believed: what a top call's contract reaches.
 pub mod Answers
+pub mod Grading
 pub mod Steps
 pub mod AnswerText
 -- Internal: what it does not.
+pub mod GradedRuns
+pub mod Inquiries
 pub mod LeadingSteps

@@ -1,7 +1,7 @@
 //! The text of the result of a search.
 ghost use Rattle.std.specs.Prelude.{◌≡◌, ◌++◌, map, IfOk, OnOk};
 ghost use Rattle.record_writer.specs.RecordText.{item_text, led};
-ghost use Rattle.search_text.specs.AnswerText.{end_line, fault_text, ending, finite_text, kind_word, outcome_line, outcomes_text, over_text, run_text, stuck_text};
+ghost use Rattle.search_text.specs.AnswerText.{end_line, fault_text, ending, finite_text, kind_word, outcome_line, outcomes_text, over_text, run_text, stuck_text, wrong_text};
 ghost use Rattle.wait_report.specs.Calls.{names_of, Rising};
 
 use crate::steps::{other_than_local, push_steps};
@@ -84,7 +84,7 @@ fn kind_word(kind: EndKind) -> &'static [u8]
 }
 
 /// Appends the items, each after a space.
-fn push_items(text: &mut Vec<u8>, names: &Names, items: &[Item]) -> Result<(), AllocError>
+pub fn push_items(text: &mut Vec<u8>, names: &Names, items: &[Item]) -> Result<(), AllocError>
     ensures { OnOk result (text.new.items ≡ text.old.items ++ led (map (item_text names.now) items.now)) }
 {
     for item in items {
@@ -145,5 +145,21 @@ pub fn run_text(
     let mut text = Vec::new(alloc);
     push_steps(&mut text, names, labels)?;
     push_end(&mut text, kind_word(kind), other_than_local(labels))?;
+    Ok(text)
+}
+
+/// The text of a run with its outcome: its steps, the line of the outcome, and the end line. An error means out of memory.
+pub fn wrong_text(
+    alloc: Global,
+    names: &Names,
+    outcome: &Outcome,
+    labels: &[Label],
+) -> Result<Vec<u8>, AllocError>
+    ensures { IfOk result (λ text. text.items ≡ wrong_text names.now outcome.now labels.now) }
+{
+    let mut text = Vec::new(alloc);
+    push_steps(&mut text, names, labels)?;
+    push_outcome(&mut text, names, outcome)?;
+    push_end(&mut text, kind_word(outcome.kind), other_than_local(labels))?;
     Ok(text)
 }

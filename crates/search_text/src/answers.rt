@@ -1,34 +1,42 @@
 //! Searches a program, and makes the answer.
-ghost use Rattle.std.specs.Prelude.{◌≡◌, IfOk};
+ghost use Rattle.std.specs.Prelude.{◌≡◌, ◌++◌, map, string_bytes, IfOk};
 ghost use Rattle.pool_syntax.specs.TreeOf.{program_of};
 ghost use Rattle.pool_search.specs.SearchTargets.{IsWantedStuck, LeadsTo};
-ghost use Rattle.search_text.specs.Answers.{Answers, IsAnswerTo, ShowsRun, TellsOutcomes, found_of};
+ghost use Rattle.search_text.specs.AnswerText.{ending, outcomes_text};
+ghost use Rattle.search_text.specs.Answers.{Answers, Grades, IsAnswerTo, ShowsRun, TellsOutcomes, found_of};
+ghost use Rattle.search_text.specs.Inquiries.{inquiry};
 
-use crate::answer::{fault_text, finite_text, outcomes_text, over_text, run_text, stuck_text};
+use crate::answer::{
+    fault_text, finite_text, outcomes_text, over_text, run_text, stuck_text, wrong_text,
+};
+use crate::grading::{first_wrong, is_allowed};
 use crate::shown::replay;
 use class_check::Checked;
-use pool_search::{OutcomeRun, Query, SearchResult, all_outcomes, outcome_run, search};
+use pool_search::{OutcomeRun, Outcomes, Query, SearchResult, all_outcomes, outcome_run, search};
 use run_types::{Label, Names};
 use std::alloc::{AllocError, Global};
 use waiting_objects::waiting_rows;
 
 /// A question to the search.
 #[derive(Clone, Copy)]
-pub enum Question {
+pub enum Question<'a> {
     /// Is there a run that the query looks for?
     Sought(Query),
     /// All outcomes. The search keeps at most `most` configurations.
     Outcomes { most: u32 },
     /// A run with the outcome at this place in the list of outcomes, counted from 1, at most 10,000,000.
     Run { place: u32, most: u32 },
+    /// Does each run that comes to its end write one of these outputs, without an error and with no object in a call?
+    /// An output is the items of the line of an outcome.
+    Graded { allowed: &'a [String], most: u32 },
 }
 
 /// What a search found.
 #[derive(Clone, Copy)]
 pub enum Found {
-    /// No run leads to a configuration that the search looks for.
+    /// No run leads to a configuration that the search looks for, or has an outcome that is not allowed.
     Finite,
-    /// The text has a run that leads to such a configuration.
+    /// The text has a run that leads to such a configuration, or has an outcome that is not allowed.
     Shown,
     /// The search met a bound: on kept configurations, on transitions without a choice, or on numbers of 32 bits.
     Over,
@@ -99,6 +107,22 @@ fn found_of(whole: bool) -> Found
     if whole { Found::Finite } else { Found::Over }
 }
 
+/// The answer that lists the outcomes. `whole` tells whether the list is complete. An error means out of memory.
+fn listed_answer(
+    alloc: Global,
+    names: &Names,
+    told: &Outcomes,
+    whole: bool,
+) -> Result<Answer, AllocError>
+    ensures { IfOk result (λ a. (a.text.items ≡ outcomes_text names.now told.now.list.items ++ ending whole told.now.kept) × (a.found ≡ found_of whole)) }
+{
+    let text = outcomes_text(alloc, names, &told.list, whole, told.kept as usize)?;
+    Ok(Answer {
+        text,
+        found: found_of(whole),
+    })
+}
+
 /// The answer to the question for all outcomes. An error means out of memory.
 fn outcomes_answer(
     alloc: Global,
@@ -109,11 +133,7 @@ fn outcomes_answer(
     ensures { IfOk result (λ a. TellsOutcomes names.now (program_of program.now.program.now) most a.text.items a.found) }
 {
     let told = all_outcomes(alloc, program, most)?;
-    let text = outcomes_text(alloc, names, &told.list, told.whole, told.kept as usize)?;
-    Ok(Answer {
-        text,
-        found: found_of(told.whole),
-    })
+    listed_answer(alloc, names, &told, told.whole)
 }
 
 /// The answer to the question for a run with the outcome at this place, counted from 1. An error means out of memory.
@@ -142,18 +162,45 @@ fn run_answer(
     }
 }
 
+/// The answer to the question whether each run that comes to its end has an outcome that is allowed. An error means out
+/// of memory.
+fn graded_answer(
+    alloc: Global,
+    program: &Checked<'_>,
+    names: &Names,
+    allowed: &[String],
+    most: u32,
+) -> Result<Answer, AllocError>
+    ensures { IfOk result (λ a. Grades names.now (program_of program.now.program.now) (map string_bytes allowed.now) most a.text.items a.found) }
+{
+    let told = all_outcomes(alloc, program, most)?;
+    let Some(place) = first_wrong(alloc, names, allowed, &told.list)? else {
+        return listed_answer(alloc, names, &told, told.whole);
+    };
+    if let OutcomeRun::Shown { outcome, labels } = outcome_run(alloc, program, most, place)? {
+        if !is_allowed(alloc, names, allowed, &outcome)? {
+            return Ok(Answer {
+                text: wrong_text(alloc, names, &outcome, &labels)?,
+                found: Found::Shown,
+            });
+        }
+    }
+    listed_answer(alloc, names, &told, false)
+}
+
 /// Searches the program, and returns the answer. An error means out of memory.
 pub fn answer_of(
     alloc: Global,
     program: &Checked<'_>,
     names: &Names,
-    question: &Question,
+    question: &Question<'_>,
 ) -> Result<Answer, AllocError>
-    ensures { IfOk result (λ a. IsAnswerTo names.now (program_of program.now.program.now) question.now a.text.items a.found) }
+    ensures { IfOk result (λ a. IsAnswerTo names.now (program_of program.now.program.now) (inquiry question.now) a.text.items a.found) }
 {
     match question {
         Question::Sought(query) => sought_answer(alloc, program, names, query),
         Question::Outcomes { most } => outcomes_answer(alloc, program, names, *most),
         Question::Run { place, most } => run_answer(alloc, program, names, *place, *most),
+        Question::Graded { allowed, most } => graded_answer(alloc, program, names, allowed, *most),
     }
 }

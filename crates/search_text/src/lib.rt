@@ -5,7 +5,9 @@
 
 mod answer;
 mod answers;
+mod grading;
 mod shown;
 mod steps;
+pub mod theorems;
 
 pub use answers::{Answer, Found, Question, answer_of};
