@@ -306,6 +306,15 @@ class Configuration:
             return {method for guard, names, _ in redex_of(self.objects[name])[1] if guard[1] is True for method in names or []}
         return set()
 
+    def offer(self, name, method):
+        """The methods that the object accepts together with this one: those of its answer, or of the first open alternative that names it."""
+        words = self.action(name) if name in self.objects else [""]
+        if words[0] == "answer":
+            return set(words[1:])
+        if words[0] == "select":
+            return next((set(names) for guard, names, _ in redex_of(self.objects[name])[1] if guard[1] is True and method in (names or [])), set())
+        return set()
+
     def make(self, words):
         """Makes the transition of these words of a record, once. Raises Stop where it is not possible."""
         kind, name = words[0], number_of(words[1])
@@ -332,14 +341,14 @@ class Configuration:
                 raise Stop
             values = [part[1] for part in redex_of(self.objects[other])[3]]
             # (a call does not overtake a message of the same pair that is offered)
-            if any(method in self.offered(name) for method, _ in self.mail.get((other, name), [])):
+            if any(method in self.offer(name, words[3]) for method, _ in self.mail.get((other, name), [])):
                 raise Stop
             self.serve(name, words[3], other, values)
             self.change(other, lambda redex, methods: ("waits", name, words[3]))
         elif kind == "take":
             other = number_of(words[2])
             waiting = self.mail.get((other, name), [])
-            offered = self.offered(name) if name in self.objects else set()
+            offered = self.offer(name, words[3])
             place = next((at for at, (method, _) in enumerate(waiting) if method in offered), None)
             if place is None or waiting[place] != (words[3], words[4:]):
                 raise Stop
