@@ -9,6 +9,8 @@ first. The second has the pairs of objects with messages that were not taken. A 
 transition makes of the states and messages that it concerns.
 
 An outcome is (kind, items). The items are a tuple of words, as in a record.
+
+Where the search met all configurations it also knows which objects are dead in each: those that wait in a call, and no run goes on with them.
 """
 import streams
 from model import WORD, Configuration, Object, Stop, name_of, number_of, redex_of, transition_of
@@ -131,13 +133,24 @@ class Interleavings:
         return tuple(changed[name] for name in range(len(changed))), mail
 
     def nexts(self, configuration):
-        """Of each possible transition the items that it writes, and the configuration after it."""
+        """Of each possible transition the items that it writes, the objects that it changes, and the configuration after it."""
         found = []
         for words in self.labels(configuration):
             after = self.after(configuration, words)
             if after:
-                found.append((words[2:] if words[0] == "write" else (), after))
+                changed = {number_of(word) for word in words[1 : 3 if words[0] in ("answer", "return") else 2]}
+                found.append((words[2:] if words[0] == "write" else (), changed, after))
         return found
+
+    def waiting(self, configuration):
+        """The objects that wait in a call."""
+        made = self.whole(configuration)
+        return {name for name in made.objects if made.action(name)[0] in ("send", "waits")}
+
+    def key(self, made):
+        """A configuration of model.py whose objects have the names 0, 1, 2, .., as it is kept here."""
+        mail = tuple(sorted((pair, tuple((method, tuple(values)) for method, values in messages)) for pair, messages in made.mail.items() if messages))
+        return tuple(self.number(made.objects[name]) for name in range(len(made.objects))), mail
 
     def has_endless_object(self):
         """Whether an object was met that can make local transitions for ever, and comes back to the same state again and again."""
@@ -159,6 +172,7 @@ class Search:
         self.runs, self.found = Interleavings(program), set()
         # (of each configuration its number, the transitions from it, and where there are none how a run ends)
         numbers, configurations, nexts, kinds = {self.runs.start: 0}, [self.runs.start], [], {}
+        self.numbers, self.configurations, self.edges = numbers, configurations, {}
         met, waiting = {(0, ())}, [(0, ())]
         while waiting and len(met) <= most:
             number, items = waiting.pop()
@@ -166,11 +180,13 @@ class Search:
                 nexts.append(None)
             if nexts[number] is None:
                 nexts[number] = []
-                for more, after in self.runs.nexts(configurations[number]):
+                self.edges[number] = []
+                for more, changed, after in self.runs.nexts(configurations[number]):
                     if after not in numbers:
                         numbers[after] = len(configurations)
                         configurations.append(after)
                     nexts[number].append((more, numbers[after]))
+                    self.edges[number].append((changed, numbers[after]))
                 if not nexts[number]:
                     kinds[number] = ending_of(self.runs.whole(configurations[number]))
             if not nexts[number]:
@@ -181,6 +197,25 @@ class Search:
                     met.add(pair)
                     waiting.append(pair)
         self.is_whole, self.met = not waiting, len(met)
+
+    def dead(self):
+        """Of each configuration with dead objects their names. All configurations have to be met."""
+        waits = {number: self.runs.waiting(configuration) for number, configuration in enumerate(self.configurations)}
+        before = {}
+        for number, edges in self.edges.items():
+            for changed, after in edges:
+                before.setdefault(after, []).append((changed, number))
+        # (who goes on at once, and then who is not changed by a transition behind which it goes on)
+        going = {(number, name) for number, edges in self.edges.items() for changed, _ in edges for name in changed & waits[number]}
+        found = list(going)
+        while found:
+            after, name = found.pop()
+            for changed, number in before.get(after, []):
+                if name in waits[number] and (number, name) not in going:
+                    going.add((number, name))
+                    found.append((number, name))
+        dead = {number: {name for name in names if (number, name) not in going} for number, names in waits.items()}
+        return {number: names for number, names in dead.items() if names}
 
 
 # ---- the lines of the commands
@@ -209,6 +244,16 @@ class NoRun(Exception):
 def outcome_of_run(program, steps):
     """The outcome of the run of these lines, and the number of its transitions that are not local. Raises NoRun where they are no run from
     the start to where no transition is possible."""
+    configuration, items, others = end_of_run(program, steps)
+    moving = [name_of(name) for name in sorted(configuration.objects) if configuration.can_move(name)]
+    if moving:
+        raise NoRun(f"a transition of {moving[0]} is possible at the end")
+    return (kind_of(configuration), tuple(items)), others
+
+
+def end_of_run(program, steps):
+    """The configuration to which these lines lead, what they write, and the number of their transitions that are not local. Raises NoRun
+    where they are no run from the start."""
     configuration, items, others, before = Configuration(parse(program), 0), [], 0, None
     for number, line in enumerate(steps, 1):
         # (behind the word `step` comes what an event line has behind its event)
@@ -228,7 +273,4 @@ def outcome_of_run(program, steps):
                 raise NoRun(f"line {number} is not possible: {line}") from None
         items += words[2:] * (words[0] == "write")
         others, before = others + (words[0] != "local"), words
-    moving = [name_of(name) for name in sorted(configuration.objects) if configuration.can_move(name)]
-    if moving:
-        raise NoRun(f"a transition of {moving[0]} is possible at the end")
-    return (kind_of(configuration), tuple(items)), others
+    return configuration, items, others

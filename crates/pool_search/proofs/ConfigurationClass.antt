@@ -9,15 +9,15 @@ use Rattle.pool_relation.specs.Progress.{HasOwnTransition}
 use Rattle.pool_relation.specs.Transition.{transition}
 use Rattle.pool_semantics.specs.declared.plain.waits.Waiting.{Waiting}
 use Rattle.reachability.specs.Search.{IsAtEnd, IsStuck, IsFaulty, WaitsAt}
-use Rattle.pool_search.specs.SearchTargets.{CountsAsStuck}
+use Rattle.pool_search.specs.SearchTargets.{IsStuckEnd}
 
 -- what counts as stuck has no transition
-pub at_end : (all : Bool) (p : ProgramTree) (c : Configuration) → CountsAsStuck all p c → IsAtEnd p c
+pub at_end : (all : Bool) (p : ProgramTree) (c : Configuration) → IsStuckEnd all p c → IsAtEnd p c
 at_end false p c s = s.at_end
 at_end true p c s = s.at_end
 
 -- where an object moves, nothing is stuck
-pub not_stuck : (all : Bool) (p : ProgramTree) (c : Configuration) (o : Option ℕ) → is_some o ≡ true → IfSome o (HasOwnTransition p c) → ¬ (CountsAsStuck all p c)
+pub not_stuck : (all : Bool) (p : ProgramTree) (c : Configuration) (o : Option ℕ) → is_some o ≡ true → IfSome o (HasOwnTransition p c) → ¬ (IsStuckEnd all p c)
 not_stuck all p c None i h s = absurd (cc)
 not_stuck all p c (Some o) i h s = absurd (let z : None ≡ Some h.2 = sym (at_end all p c s h.0) ∙ h.3 in cc)
 

@@ -12,3 +12,4 @@ pub mod EntryExpansion
 pub mod FoundLists
 pub mod OutcomesComplete
 pub mod ConfigurationClass
+pub mod WaiterLaws

@@ -1,8 +1,9 @@
 -- Runs, and runs of transitions that a search follows, are extended by one transition at the end.
-use Rattle.std.proofs.Common.{◌≡◌, refl, sym, ap, ◌∙◌, subst, List, [], ◌∷◌, ◌++◌, Some, true, append_assoc}
+use Rattle.std.proofs.Common.{◌≡◌, refl, sym, ap, ◌∙◌, subst, List, [], ◌∷◌, ◌++◌, Some, true, ◌&&◌, append_assoc}
 use Rattle.std.proofs.lemmas.List.{append-nil}
 use Rattle.run_types.specs.declared.types.Item.{Item}
 use Rattle.run_types.specs.declared.types.Label.{Label}
+use Rattle.run_types.proofs.Laws.{first, second}
 use Rattle.pool_syntax.specs.Terms.{ProgramTree}
 use Rattle.run_types.specs.Partial.{◌>>=◌}
 use Rattle.pool_relation.specs.Configuration.{Configuration}
@@ -13,11 +14,17 @@ use Rattle.search_laws.specs.Tried.{Course, Follows, Stays, GoesBy, KeepsNothing
 use Rattle.search_laws.proofs.Laws.{silent_keeps_nothing}
 use Rattle.pool_search.specs.declared.scope.Keeps.{Keeps}
 use Rattle.pool_search.specs.declared.scope.Keeps.TheVariants as K
-use Rattle.pool_search.specs.Courses.{course_of}
+use Rattle.pool_search.specs.Courses.{all_followed, course_of}
 use Rattle.pool_search.specs.Progress.{gathered, IsReachedWith}
 
 pub run_more : (p : ProgramTree) (c d e : Configuration) (ls : List Label) (l : Label) → run p c ls ≡ Some d → transition p d l ≡ Some e → run p c (ls ++ l ∷ []) ≡ Some e
 run_more p c d e ls l h step = joined p c d ls (l ∷ []) h ∙ ap (λ t. t >>= λ x. Some x) step
+
+-- one more label that is followed
+pub followed_more : (k : Course) (ls : List Label) (l : Label) → all_followed k ls ≡ true → k.follows l ≡ true → all_followed k (ls ++ l ∷ []) ≡ true
+followed_more k [] l h f = ap (λ b. b && true) f
+followed_more k (m ∷ ls) l h f =
+    ap (λ b. b && all_followed k (ls ++ l ∷ [])) (first (k.follows m) (all_followed k ls) h) ∙ followed_more k ls l (second (k.follows m) (all_followed k ls) h) f
 
 -- of what is followed nothing is kept
 pub keeps_nothing : (k : Keeps) → KeepsNothing (course_of k)

@@ -1,21 +1,23 @@
 -- If a search has visited all its entries, its list is closed, and no run leads to what it did not find.
 use Rattle.std.proofs.Common.{◌≡◌, ◌≤◌, ◌+◌, inl, inr, sym, ap, ◌∙◌, subst, ℕ, suc, List, [], ◌∷◌, ◌++◌, length, map, take, Some, None, Bool, true, false, arith}
 use Rattle.std.specs.List.{slice_get}
-use Rattle.std.proofs.lemmas.List.{take_all, take-append-le}
+use Rattle.std.proofs.lemmas.List.{length-map, take_all, take-append-le}
 use Rattle.std.proofs.lemmas.Option.{slice_get_within, get_or_from_slice_get}
 use Rattle.std.proofs.Math.Seq.{take-suc}
 use Rattle.pool_syntax.specs.Terms.{ProgramTree}
 use Rattle.run_types.specs.Tables.{Each}
 use Rattle.pool_relation.specs.Configuration.{Configuration}
-use Rattle.reachability.specs.Search.{IsReached, IsIn, IsInOrder, IsClosedAfterSettling}
+use Rattle.reachability.specs.Search.{IsReached, WaitsAt, IsIn, IsInOrder, IsClosedAfterSettling}
 use Rattle.reachability.specs.Labels.{labels_to_try}
 use Rattle.search_laws.specs.Renamed.{IsNameless}
 use Rattle.search_laws.specs.Outcomes.{Passed, IsPassed, IsWholeWith}
+use Rattle.search_laws.specs.Dead.{HasDead, CanGoOn}
 use Rattle.search_laws.specs.Tried.{Course, states_only, with_writes, AllLeadInto, AreTried, IsTried, state_of}
-use Rattle.search_laws.proofs.Laws.{whole_by_trying, whole_with_writes, never_stuck_after_settling, never_unfinished_after_settling, never_faulty_after_settling}
+use Rattle.search_laws.proofs.Laws.{whole_by_trying, whole_with_writes, never_unfinished_after_settling, never_faulty_after_settling, nobody_dead, all_go_on}
 use Rattle.pool_search.specs.declared.queries.Query.{Query}
 use Rattle.pool_search.specs.Entries.{IsPassedOver}
-use Rattle.pool_search.specs.SearchTargets.{CountsAsStuck, IsUnwanted}
+use Rattle.pool_search.specs.SearchAnswers.{IsPassedBy}
+use Rattle.pool_search.specs.SearchTargets.{wants_stuck, CountsAsStuck, IsStuckEnd, IsUnwanted, IsFinite}
 use Rattle.pool_search.specs.Progress.{Entries, Grows, IsReachedWith, IsSearchedTo}
 use Rattle.pool_search.proofs.ListGrowth.{in_grown, tried_grown, each_more, each_weaker, tried_more, each_at}
 
@@ -73,29 +75,53 @@ pub searched_all : (p : ProgramTree) (P : Passed → Type 0) (es : Entries) (at 
 searched_all p P es at all s = whole_by_trying p es (tried_all p states_only P es at all s)
 
 -- what each entry is not, an entry of this configuration is not
-none_in : (p : ProgramTree) (q : Query) (es : Entries) (n : ℕ) (c : Configuration) → Each (IsPassedOver p q) es → IsIn n c (map state_of es) → IsUnwanted p q c
+none_in : (p : ProgramTree) (q : Query) (es : Entries) (n : ℕ) (c : Configuration) → Each (IsPassedOver p q) es → IsIn n c (map state_of es) → IsPassedBy p q c
 none_in p q [] n c h i = absurd i
-none_in p q (e ∷ es) n c h (inl i) = subst (IsUnwanted p q) i.1 h.0
+none_in p q (e ∷ es) n c h (inl i) = subst (IsPassedBy p q) i.1 h.0
 none_in p q (e ∷ es) n c h (inr i) = none_in p q es n c h.1 i
 
+-- each object that waits in the list can go on, if the query looks for stuck configurations
+abbrev pub AllGoOn : ProgramTree → Query → Entries → Type 0
+AllGoOn p q es = wants_stuck q.wanted ≡ true → (n : ℕ) (c : Configuration) (o : ℕ) → IsIn n c (map state_of es) → WaitsAt p c o → CanGoOn p c o
+
 -- no run leads to what is asked for
-pub never_wanted : (p : ProgramTree) (q : Query) (es : Entries) (at : ℕ) → IsNameless p → length es ≤ at → IsSearchedTo p states_only (IsPassedOver p q) es at → (d : Configuration)
-    → IsReached p d → IsUnwanted p q d
-never_wanted p q es at less all s d reached =
+pub never_wanted : (p : ProgramTree) (q : Query) (es : Entries) (at : ℕ) → IsNameless p → length es ≤ at → IsSearchedTo p states_only (IsPassedOver p q) es at → AllGoOn p q es
+    → (d : Configuration) → IsReached p d → IsUnwanted p q d
+never_wanted p q es at less all s on d reached =
     record {
-      not_stuck = λ w. stuck q.all (λ n c i h. (each n c i).not_stuck (record { asked = w.asked; holds = h })) w.holds;
+      not_stuck = λ w. stuck q.all (λ n c i h. (each n c i).not_end (record { asked = w.asked; holds = h })) (nobody w.asked) w.holds;
       not_faulty = λ w. never_faulty_after_settling p (map state_of es) less whole (λ n c i h. (each n c i).not_faulty (record { asked = w.asked; holds = h })) d reached w.holds;
     }
   where
     whole : IsClosedAfterSettling p (map state_of es)
     whole = searched_all p (IsPassedOver p q) es at all s
 
-    each : (n : ℕ) (c : Configuration) → IsIn n c (map state_of es) → IsUnwanted p q c
+    each : (n : ℕ) (c : Configuration) → IsIn n c (map state_of es) → IsPassedBy p q c
     each n c i = none_in p q es n c (visited_all p states_only (IsPassedOver p q) es at all s) i
 
-    stuck : (b : Bool) → ((n : ℕ) (c : Configuration) → IsIn n c (map state_of es) → ¬ (CountsAsStuck b p c)) → ¬ (CountsAsStuck b p d)
-    stuck false none h = never_stuck_after_settling p (map state_of es) less whole none d reached h
-    stuck true none h = never_unfinished_after_settling p (map state_of es) less whole none d reached h
+    nobody : wants_stuck q.wanted ≡ true → ¬ (HasDead p d)
+    nobody asked = nobody_dead p (map state_of es) less whole (on asked) d reached
+
+    stuck : (b : Bool) → ((n : ℕ) (c : Configuration) → IsIn n c (map state_of es) → ¬ (IsStuckEnd b p c)) → ¬ (HasDead p d) → ¬ (CountsAsStuck b p d)
+    stuck false none dead h = dead h
+    stuck true none dead (inl h) = never_unfinished_after_settling p (map state_of es) less whole none d reached h
+    stuck true none dead (inr h) = dead h
+
+-- what a search has shown that has visited its whole list
+pub is_finite : (p : ProgramTree) (q : Query) (es : Entries) (k : ℕ) → IsNameless p → IsSearchedTo p states_only (IsPassedOver p q) es (length es) → AllGoOn p q es → length es ≡ k → k ≤ q.most
+    → IsFinite p q k
+is_finite p q es k less s on count within = record {
+  never = never_wanted p q es (length es) less all s on;
+  goes_on = λ asked. all_go_on p (map state_of es) less whole (on asked);
+  kept = record { list = map state_of es; whole = whole; count = length-map es state_of ∙ count };
+  within = within;
+}
+  where
+    all : length es ≤ length es
+    all = omega arith
+
+    whole : IsClosedAfterSettling p (map state_of es)
+    whole = searched_all p (IsPassedOver p q) es (length es) all s
 
 -- a search for outcomes misses none
 pub whole_by_visits : (p : ProgramTree) (P : Passed → Type 0) (es : Entries) (at : ℕ) → length es ≤ at → IsSearchedTo p with_writes P es at → IsWholeWith p None es

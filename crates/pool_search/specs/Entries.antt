@@ -7,7 +7,7 @@ use Rattle.search_laws.specs.Outcomes.{Passed}
 use Rattle.pool_search.specs.VisitedConfigurations.{entry, kept_list, kept_lists, kept_program}
 use Rattle.pool_search.specs.declared.explored.Explored.{Explored}
 use Rattle.pool_search.specs.declared.queries.Query.{Query}
-use Rattle.pool_search.specs.SearchTargets.{IsUnwanted}
+use Rattle.pool_search.specs.SearchAnswers.{IsPassedBy}
 use Rattle.pool_search.specs.Progress.{Entries}
 
 -- the configurations, each with its next free name and what was written before it
@@ -26,6 +26,6 @@ searched e = kept_program e.kept
 abbrev pub IsEntryAt : Entries → ℕ → ℕ → Configuration → Type 0
 IsEntryAt es at n c = (w : List Item) × (slice_get es at ≡ Some (entry n w c))
 
--- the query does not look for the configuration of the entry
+-- the configuration of the entry is none that the search shows when it visits it
 abbrev pub IsPassedOver : ProgramTree → Query → Passed → Type 0
-IsPassedOver p q e = IsUnwanted p q e.configuration
+IsPassedOver p q e = IsPassedBy p q e.configuration

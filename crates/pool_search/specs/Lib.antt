@@ -11,3 +11,5 @@ pub mod SearchAnswers
 pub mod Progress
 pub mod Entries
 pub mod FoundOutcomes
+pub mod WaiterLists
+pub mod Leads

@@ -1,7 +1,8 @@
 //! Decides whether a configuration is one that the query looks for.
 ghost use Rattle.std.specs.Prelude.{◌≡◌, false, true};
 ghost use Rattle.pool_semantics.specs.PlainOf.{configuration_of, program_tree, is_spent};
-ghost use Rattle.pool_search.specs.SearchTargets.{CountsAsStuck, IsWantedStuck, IsWantedFault, IsUnwanted};
+ghost use Rattle.pool_search.specs.SearchTargets.{IsStuckEnd, IsWantedEnd, IsWantedFault};
+ghost use Rattle.pool_search.specs.SearchAnswers.{IsPassedBy};
 ghost use Rattle.reachability.specs.Search.{IsFaulty};
 
 use crate::queries::{Query, Target};
@@ -15,11 +16,11 @@ pub enum Classification {
     Neither,
 }
 
-/// Whether the configuration counts as stuck. `all` also counts each unfinished one.
+/// Whether no label is possible and an object is in a call. `all` also counts each unfinished configuration.
 pub fn is_stuck(plain: &Plain<'_>, all: bool) -> bool
     requires { is_spent plain.now ≡ false }
-    ensures yes { result ≡ true → CountsAsStuck all (program_tree plain.now) (configuration_of plain.now) }
-    ensures no { result ≡ false → ¬ (CountsAsStuck all (program_tree plain.now) (configuration_of plain.now)) }
+    ensures yes { result ≡ true → IsStuckEnd all (program_tree plain.now) (configuration_of plain.now) }
+    ensures no { result ≡ false → ¬ (IsStuckEnd all (program_tree plain.now) (configuration_of plain.now)) }
 {
     if plain.moving().is_some() {
         return false;
@@ -41,9 +42,9 @@ pub fn is_faulty(plain: &Plain<'_>) -> bool
 /// The kind of a configuration. It is `Stuck` or `Fault` only if the query looks for this; `Stuck` comes first.
 pub fn judge(plain: &Plain<'_>, question: &Query) -> Classification
     requires { is_spent plain.now ≡ false }
-    ensures stuck { result ≡ Classification.Stuck → IsWantedStuck (program_tree plain.now) question.now (configuration_of plain.now) }
+    ensures stuck { result ≡ Classification.Stuck → IsWantedEnd (program_tree plain.now) question.now (configuration_of plain.now) }
     ensures fault { result ≡ Classification.Fault → IsWantedFault question.now (configuration_of plain.now) }
-    ensures neither { result ≡ Classification.Neither → IsUnwanted (program_tree plain.now) question.now (configuration_of plain.now) }
+    ensures neither { result ≡ Classification.Neither → IsPassedBy (program_tree plain.now) question.now (configuration_of plain.now) }
 {
     let stuck = match question.wanted {
         Target::Stuck | Target::Both => is_stuck(plain, question.all),

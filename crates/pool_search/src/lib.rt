@@ -5,10 +5,13 @@
 //! Does not know: files, sinks and the text of answers.
 #![tactic(auto)]
 
+mod changes;
 mod classifier;
+mod dead_objects;
 mod ends;
 mod equality;
 mod explored;
+mod going_on;
 mod made;
 mod numbered;
 mod outcomes;
@@ -19,6 +22,7 @@ mod scope;
 mod searching;
 mod settling;
 mod visited;
+mod waiters;
 mod writings;
 
 pub use outcomes::{EndKind, Outcome, OutcomeRun, Outcomes, all_outcomes, outcome_run};

@@ -26,8 +26,12 @@ pub struct Query {
 /// The result of a search.
 #[derive(Drop)]
 pub enum SearchResult {
-    /// The labels of a run that gets stuck, from the start. The first object has the name 0.
+    /// The labels of a run that gets stuck where no label is possible. They begin at the start, and the first object has
+    /// the name 0.
     Stuck(Vec<Label>),
+    /// The labels of a run, in the same form, and the dead objects after it. There is at least one. Other objects can go
+    /// on.
+    Dead { labels: Vec<Label>, names: Vec<u32> },
     /// The labels of a run that meets a run-time error, in the same form.
     Fault(Vec<Label>),
     /// There is no such run. The number of configurations that the search kept.

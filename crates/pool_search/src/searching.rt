@@ -1,5 +1,5 @@
 //! The breadth-first search.
-ghost use Rattle.std.specs.Prelude.{◌≡◌, ◌≤◌, ℕ, Ok, Some, IfOk, IfSome, length};
+ghost use Rattle.std.specs.Prelude.{◌≡◌, ◌≤◌, ℕ, Ok, Some, IfOk, IfSome, length, true};
 ghost use Rattle.std.specs.Global.{Global};
 ghost use Rattle.std.specs.declared.vec.Vec.{Vec};
 ghost use Rattle.pool_syntax.specs.TreeOf.{program_of};
@@ -7,15 +7,17 @@ ghost use Rattle.run_types.specs.declared.types.Label.{Label};
 ghost use Rattle.search_laws.specs.Tried.{states_only};
 ghost use Rattle.pool_search.specs.Courses.{course_of};
 ghost use Rattle.pool_search.specs.Entries.{IsPassedOver, entries, searched};
-ghost use Rattle.pool_search.specs.Progress.{IsSearchedTo};
-ghost use Rattle.pool_search.specs.SearchTargets.{LeadsTo, IsWantedStuck, IsWantedFault, IsFinite};
+ghost use Rattle.pool_search.specs.Progress.{AllInOrder, IsSearchedTo};
+ghost use Rattle.pool_search.specs.SearchTargets.{LeadsTo, IsWantedEnd, IsWantedDead, IsWantedFault, IsFinite, wants_stuck};
 ghost use Rattle.pool_search.specs.SearchAnswers.{IsAnswer};
 ghost use Rattle.pool_search.specs.declared.queries.Query.{Query};
 
+use crate::changes::next_after;
 use crate::explored::{Explored, Origin, RunEnd};
-use crate::queries::{Query, SearchResult};
-use crate::retracing::{show, way_to};
+use crate::queries::{Query, SearchResult, Target};
+use crate::retracing::{retrace, show, way_to};
 use crate::scope::{Keeps, Scope};
+use crate::waiters::Waiters;
 use class_check::Checked;
 use pool_semantics::Plain;
 use std::alloc::{AllocError, Global};
@@ -39,6 +41,84 @@ pub fn begin<'a>(
     Ok(Some(explored))
 }
 
+/// The run to an entry, with the objects that are dead there. None if none is known to be dead. An error means out of
+/// memory.
+fn show_dead<'a>(
+    alloc: Global,
+    program: &Checked<'a>,
+    explored: &mut Explored<'a>,
+    waiters: &Waiters,
+    at: u32,
+) -> Result<Option<SearchResult>, AllocError>
+    requires program { searched explored.old ≡ program_of program.now.program.now }
+    requires in_order { AllInOrder (entries explored.old) }
+    ensures { IfOk result (λ r. IfSome r (λ f. (q : Query) → wants_stuck q.wanted ≡ true → IsAnswer (program_of program.now.program.now) q f)) }
+{
+    if at as usize >= explored.kept.len() {
+        return Ok(None);
+    }
+    let way = way_to(alloc, &explored.origins, at)?;
+    let mut plain = Plain::make(alloc, program, 0)?;
+    let mut labels = Vec::new(alloc);
+    if !retrace(alloc, &mut plain, Keeps::States, &way, &mut labels)? {
+        return Ok(None);
+    }
+    let Some(next) = next_after(1, &labels) else {
+        return Ok(None);
+    };
+    let written = explored.kept.written(at as usize);
+    let Some(place) = explored.kept.find(&plain, next, written)? else {
+        return Ok(None);
+    };
+    let names = explored.dead_at(alloc, waiters, &plain, place)?;
+    if names.is_empty() {
+        return Ok(None);
+    }
+    Ok(Some(SearchResult::Dead { labels, names }))
+}
+
+/// Whether the query looks for stuck configurations.
+fn wants_stuck(wanted: Target) -> bool
+    ensures { result ≡ wants_stuck wanted }
+{
+    match wanted {
+        Target::Stuck | Target::Both => true,
+        Target::Fault => false,
+    }
+}
+
+/// The result of a search that has kept its whole list. An error means out of memory.
+fn whole_answer<'a>(
+    alloc: Global,
+    program: &Checked<'a>,
+    explored: &mut Explored<'a>,
+    question: &Query,
+) -> Result<SearchResult, AllocError>
+    requires program { searched explored.old ≡ program_of program.now.program.now }
+    requires whole { IsSearchedTo (searched explored.old) states_only (IsPassedOver (searched explored.old) question.now) (entries explored.old) (length (entries explored.old)) }
+    requires within { length (entries explored.old) ≤ question.now.most }
+    ensures { IfOk result (λ f. IsAnswer (program_of program.now.program.now) question.now f) }
+{
+    let kept = explored.count(question.most);
+    if !wants_stuck(question.wanted) {
+        return Ok(SearchResult::Finite(kept));
+    }
+    let Some(mut waiters) = explored.waiters(alloc)? else {
+        return Ok(SearchResult::Over(kept));
+    };
+    explored.note_all(alloc, &mut waiters)?;
+    if waiters.all_go_on() {
+        return Ok(SearchResult::Finite(kept));
+    }
+    let Some(at) = waiters.fullest() else {
+        return Ok(SearchResult::Over(kept));
+    };
+    match show_dead(alloc, program, explored, &waiters, at)? {
+        Some(found) => Ok(found),
+        None => Ok(SearchResult::Over(kept)),
+    }
+}
+
 /// The result of a search that has kept its start. An error means out of memory.
 fn answer<'a>(
     alloc: Global,
@@ -52,7 +132,7 @@ fn answer<'a>(
     ensures { IfOk result (λ f. IsAnswer (program_of program.now.program.now) question.now f) }
 {
     let at = match explored.look(alloc, question)? {
-        RunEnd::Whole => return Ok(SearchResult::Finite(explored.count(question.most))),
+        RunEnd::Whole => return whole_answer(alloc, program, explored, question),
         RunEnd::Over => return Ok(SearchResult::Over(explored.count(question.most))),
         RunEnd::Shown(at) => at,
     };
@@ -64,7 +144,9 @@ fn answer<'a>(
 }
 
 /// Searches all runs of a program for one that the query looks for. An error means out of memory.
-/// The search is breadth-first, so the run of a result passes the fewest kept configurations.
+/// The search is breadth-first, so the run of a result `Stuck` or `Fault` passes the fewest kept configurations.
+/// If no run leads to such a configuration, but a dead object is found, the result is `Dead`. Its run leads to one of the
+/// configurations with the most dead objects.
 /// The result is `Over` if more than `most` configurations would be kept,
 /// or if 1,000,000 transitions that need no choice follow one another.
 /// It is also `Over` if no number of 32 bits is left for an object or for the state of an object.
@@ -74,7 +156,9 @@ pub fn search(
     question: &Query,
 ) -> Result<SearchResult, AllocError>
     ensures stuck { (ls : Vec Label Global) → result ≡ Ok (SearchResult.Stuck ls)
-        → LeadsTo (program_of program.now.program.now) ls.items (IsWantedStuck (program_of program.now.program.now) question.now) }
+        → LeadsTo (program_of program.now.program.now) ls.items (IsWantedEnd (program_of program.now.program.now) question.now) }
+    ensures dead { (ls : Vec Label Global) (names : Vec ℕ Global) → result ≡ Ok (SearchResult.Dead ls names)
+        → LeadsTo (program_of program.now.program.now) ls.items (IsWantedDead (program_of program.now.program.now) question.now names.items) }
     ensures fault { (ls : Vec Label Global) → result ≡ Ok (SearchResult.Fault ls) → LeadsTo (program_of program.now.program.now) ls.items (IsWantedFault question.now) }
     ensures finite { (k : ℕ) → result ≡ Ok (SearchResult.Finite k) → IsFinite (program_of program.now.program.now) question.now k }
     ensures over { (k : ℕ) → result ≡ Ok (SearchResult.Over k) → k ≤ question.now.most }

@@ -1,10 +1,11 @@
 //! Settling: transitions that need no choice are made at once, and only the configuration after them is kept.
-ghost use Rattle.std.specs.Prelude.{◌≡◌, Some, IfOk, IfSome, IfNone, true, false};
+ghost use Rattle.std.specs.Prelude.{◌≡◌, ◌++◌, List, Some, IfOk, IfSome, IfNone, true, false};
+ghost use Rattle.run_types.specs.declared.types.Label.{Label as OneLabel};
 ghost use Rattle.pool_relation.specs.Configuration.{Configuration};
 ghost use Rattle.pool_relation.specs.Transition.{transition, run};
 ghost use Rattle.pool_semantics.specs.PlainOf.{configuration_of, program_tree, is_spent};
 ghost use Rattle.search_laws.specs.Tried.{Follows};
-ghost use Rattle.pool_search.specs.Courses.{course_of};
+ghost use Rattle.pool_search.specs.Courses.{all_followed, course_of};
 
 use crate::scope::Keeps;
 use pool_semantics::{Plain, Refuse};
@@ -75,6 +76,7 @@ pub fn settle_shown(
     ensures fresh { IfOk result (λ _. is_spent plain.new ≡ false) }
     ensures leads { IfOk result (λ _. (c : Configuration) → run (program_tree plain.old) c shown.old.items ≡ Some (configuration_of plain.old)
         → run (program_tree plain.old) c shown.new.items ≡ Some (configuration_of plain.new)) }
+    ensures followed { IfOk result (λ _. (added : List OneLabel) × (shown.new.items ≡ shown.old.items ++ added) × (all_followed (course_of keeps) added ≡ true)) }
 {
     for _made in 0..SETTLE {
         match settle_once(plain, keeps) {

@@ -179,6 +179,41 @@ impl<'a> VisitedSet<'a> {
         numbers_of(self.alloc, &mut self.table, objects)
     }
 
+    /// The index of a configuration, with what was written. Requires that it is one of the set's program, and the number of
+    /// a list. None if it is not found: it is not in the set, or its hash was that of another. An error means out of
+    /// memory.
+    pub fn find(
+        &mut self,
+        plain: &Plain<'a>,
+        next: u32,
+        written: u32,
+    ) -> Result<Option<u32>, AllocError>
+        requires fresh { is_spent plain.now ≡ false }
+        requires program { program_tree plain.now ≡ kept_program self.old }
+        requires named { written < length (kept_lists self.old) }
+        ensures list { kept_list self.new ≡ kept_list self.old }
+        ensures lists { kept_lists self.new ≡ kept_lists self.old }
+        ensures program { kept_program self.new ≡ kept_program self.old }
+        ensures found { IfOk result (λ o. IfSome o (λ i. slice_get (kept_list self.old) i ≡ Some (entry next (get_or (kept_lists self.old) written []) (configuration_of plain.now)))) }
+    {
+        let state = plain.state();
+        let queues = queues_of(self.alloc, &state.messages)?;
+        let Some(objects) = self.numbers(&state.objects)? else {
+            return Ok(None);
+        };
+        let found = Numbered {
+            next,
+            written,
+            objects,
+            queues,
+        };
+        let mark = mark(&found);
+        match self.seen(mark, &found) {
+            Some(at) => Ok(Some(at)),
+            None => Ok(None),
+        }
+    }
+
     /// Looks a configuration up, with what was written, and adds it if it was not found. Requires that it is one of the
     /// set's program, and the number of a list.
     /// None if the set or the table of object states is full, or if the

@@ -13,8 +13,9 @@ use Rattle.pool_relation.proofs.Laws.{running_is}
 use Rattle.search_laws.specs.Renamed.{Renaming, renamed_program, renamed_label, IsRenamed, IsNameless}
 use Rattle.reachability.specs.Search as S
 use Rattle.reachability.specs.Search.{IsReached, IsClosedAfterSettling, WaitsAt, IsFaulty, IsIn, in_order}
-use Rattle.search_laws.specs.Dead as D
-use Rattle.search_laws.specs.Dead.{changes, some_changes, IsDead, HasDead, CanGoOn, SettlesFreely, beside}
+use Rattle.search_laws.specs.ClosedBeside as D
+use Rattle.search_laws.specs.Dead.{changes, some_changes, IsDead, HasDead, CanGoOn}
+use Rattle.search_laws.specs.ClosedBeside.{SettlesFreely, beside}
 use Rattle.search_laws.specs.PutOff as P
 use Rattle.search_laws.specs.PutOff.{LeadsFreely, IsTriedInTheEnd, IsClosedByChoices, any, IsWholeByChoices}
 use Rattle.search_laws.specs.Stubborn as E

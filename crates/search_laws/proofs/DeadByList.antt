@@ -5,7 +5,8 @@ use Rattle.pool_syntax.specs.Terms.{ProgramTree}
 use Rattle.pool_relation.specs.Configuration.{Configuration}
 use Rattle.reachability.specs.Search.{IsReached, IsClosedAfterSettling, WaitsAt, IsIn}
 use Rattle.search_laws.specs.Renamed.{IsNameless}
-use Rattle.search_laws.specs.Dead.{IsDead, HasDead, CanGoOn, beside, IsClosedBeside}
+use Rattle.search_laws.specs.Dead.{IsDead, HasDead, CanGoOn}
+use Rattle.search_laws.specs.ClosedBeside.{beside, IsClosedBeside}
 use Rattle.search_laws.specs.PutOff as F
 use Rattle.search_laws.specs.PutOff.{IsClosedByChoices}
 use Rattle.search_laws.proofs.Dead.{not_dead}

@@ -24,7 +24,7 @@ use Rattle.pool_relation.specs.Transition.{running, makes, calls, posts, returns
 use Rattle.pool_relation.proofs.Laws.{running_is, PutMessages, NewMessages, OldMessages, put_messages_cases}
 use Rattle.search_laws.specs.Renamed.{Renaming, renamed_value, renamed_item, renamed_program, renamed_object, renamed_message, renamed_label, IsRenamed, IsNameless}
 use Rattle.reachability.specs.Search.{after, names_next, in_order}
-use Rattle.search_laws.specs.Dead.{after_all, IsReachedInOrder}
+use Rattle.search_laws.specs.ClosedBeside.{after_all, IsReachedInOrder}
 use Rattle.search_laws.proofs.OneLabel.{same_item}
 use Rattle.search_laws.proofs.RenamedAction.{renamed_action, action_renamed}
 use Rattle.search_laws.proofs.RenamedTransition.{Alike, Neither, Both, unequal, same_names, first_renamed, transition_renamed}

@@ -8,9 +8,10 @@ pub use Rattle.search_laws.proofs.NextName.{at_end_by_next}
 pub use Rattle.search_laws.proofs.Commutation.{Alone, commutes}
 pub use Rattle.search_laws.proofs.ChoiceFreeRuns.{sorted_after, start_sorted, never_stuck_after_settling, never_unfinished_after_settling}
 pub use Rattle.search_laws.proofs.KeptOnTheWay.{never_faulty_after_settling, never_dead_after_settling}
+pub use Rattle.search_laws.proofs.AllLabels.{all_labels}
 pub use Rattle.search_laws.proofs.AllLabelsTried.{is_in_states, silent_keeps_nothing, whole_by_trying, whole_with_writes}
 -- dead objects
-pub use Rattle.search_laws.proofs.Dead.{dead_for_good, stuck_is_dead, not_dead}
+pub use Rattle.search_laws.proofs.Dead.{unchanged_by, dead_for_good, stuck_is_dead, not_dead}
 pub use Rattle.search_laws.proofs.DeadByList.{nobody_dead, dead_by_list}
 pub use Rattle.search_laws.proofs.GoesOn.{all_go_on, all_go_on_by_choices}
 pub use Rattle.search_laws.proofs.Known.{known_reached}

@@ -7,8 +7,8 @@ use Rattle.pool_relation.specs.Configuration.{Configuration}
 use Rattle.pool_relation.specs.Transition.{transition, run}
 use Rattle.reachability.specs.Search.{IsIn, IsInOrder, after, names_next, in_order}
 use Rattle.search_laws.specs.Stubborn.{are_others}
-use Rattle.search_laws.specs.Dead as D
-use Rattle.search_laws.specs.Dead.{SettlesFreely}
+use Rattle.search_laws.specs.ClosedBeside as D
+use Rattle.search_laws.specs.ClosedBeside.{SettlesFreely}
 use Rattle.search_laws.specs.PutOff as F
 use Rattle.search_laws.specs.PutOff.{LeadsFreely, IsTriedInTheEnd, IsClosedByChoices, IsTriedAt}
 use Rattle.search_laws.proofs.ReducedSearch.{stays, both_hold, First, first_of, joined_step}

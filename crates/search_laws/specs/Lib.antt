@@ -1,7 +1,9 @@
+-- Believed: what a top call's contract reaches.
+pub mod Dead
 -- Internal: what it does not.
 pub mod Renamed
 pub mod ClosedLists
-pub mod Dead
+pub mod ClosedBeside
 pub mod Caught
 pub mod Stubborn
 pub mod PutOff

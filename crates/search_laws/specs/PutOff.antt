@@ -7,7 +7,7 @@ use Rattle.pool_relation.specs.Configuration.{Configuration}
 use Rattle.pool_relation.specs.Transition.{transition, start}
 use Rattle.reachability.specs.Search.{IsIn, IsInOrder, after, names_next}
 use Rattle.search_laws.specs.Stubborn.{IsStubborn}
-use Rattle.search_laws.specs.Dead.{SettlesFreely}
+use Rattle.search_laws.specs.ClosedBeside.{SettlesFreely}
 
 -- if the label is possible, it is free, and leads into the list after some free transitions that need no choice
 abbrev pub LeadsFreely : ProgramTree → (Label → Bool) → List (ℕ × Configuration) → ℕ → Configuration → Label → Type 0

@@ -15,7 +15,8 @@ ghost use Rattle.search_laws.specs.Tried.{IsTried, states_only, with_writes, sta
 ghost use Rattle.reachability.specs.Search.{Settles, WaitsAt, IsReached, IsAtEnd, IsStuck, IsUnfinished, IsFaulty, IsIn, IsClosedAfterSettling, names_next};
 ghost use Rattle.reachability.specs.Outcomes.{EndsWith, IsOneOf, all_name_none};
 ghost use Rattle.search_laws.specs.ClosedLists.{IsClosedSearch};
-ghost use Rattle.search_laws.specs.Dead.{IsDead, HasDead, CanGoOn, beside, IsClosedBeside, IsReachedInOrder};
+ghost use Rattle.search_laws.specs.Dead.{IsDead, HasDead, CanGoOn};
+ghost use Rattle.search_laws.specs.ClosedBeside.{beside, IsClosedBeside, IsReachedInOrder};
 ghost use Rattle.search_laws.specs.Stubborn.{IsStubborn, IsAwaited, is_served, IsWholeForEnds};
 ghost use Rattle.search_laws.specs.PutOff.{IsClosedByChoices, IsWholeByChoices};
 ghost use Rattle.search_laws.specs.Caught.{IsCaught, is_caught};

@@ -1,3 +1,4 @@
 pub mod RunLaws
 pub mod StepLaws
 pub mod GradeLaws
+pub mod ChosenLaws

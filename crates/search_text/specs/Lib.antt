@@ -3,6 +3,7 @@ pub mod Answers
 pub mod Grading
 pub mod Steps
 pub mod AnswerText
+pub mod ChosenRows
 -- Internal: what it does not.
 pub mod GradedRuns
 pub mod Inquiries

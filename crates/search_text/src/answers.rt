@@ -1,7 +1,7 @@
 //! Searches a program, and makes the answer.
 ghost use Rattle.std.specs.Prelude.{◌≡◌, ◌++◌, map, string_bytes, IfOk};
 ghost use Rattle.pool_syntax.specs.TreeOf.{program_of};
-ghost use Rattle.pool_search.specs.SearchTargets.{IsWantedStuck, LeadsTo};
+ghost use Rattle.pool_search.specs.SearchTargets.{IsWantedDead, IsWantedEnd, LeadsTo};
 ghost use Rattle.search_text.specs.AnswerText.{ending, outcomes_text};
 ghost use Rattle.search_text.specs.Answers.{Answers, Grades, IsAnswerTo, ShowsRun, TellsOutcomes, found_of};
 ghost use Rattle.search_text.specs.Inquiries.{inquiry};
@@ -9,6 +9,7 @@ ghost use Rattle.search_text.specs.Inquiries.{inquiry};
 use crate::answer::{
     fault_text, finite_text, outcomes_text, over_text, run_text, stuck_text, wrong_text,
 };
+use crate::chosen::rows_of;
 use crate::grading::{first_wrong, is_allowed};
 use crate::shown::replay;
 use class_check::Checked;
@@ -61,11 +62,33 @@ fn stuck_answer(
     question: &Query,
     labels: &[Label],
 ) -> Result<Answer, AllocError>
-    requires { LeadsTo (program_of program.now.program.now) labels.now (IsWantedStuck (program_of program.now.program.now) question.now) }
+    requires { LeadsTo (program_of program.now.program.now) labels.now (IsWantedEnd (program_of program.now.program.now) question.now) }
     ensures { IfOk result (λ a. Answers names.now (program_of program.now.program.now) question.now a.text.items a.found) }
 {
     let plain = replay(alloc, program, labels)?;
     let rows = waiting_rows(alloc, &plain, question.all)?;
+    let text = stuck_text(alloc, names, labels, &rows)?;
+    Ok(Answer {
+        text,
+        found: Found::Shown,
+    })
+}
+
+/// The answer for a run after which these objects are dead. An error means out of memory.
+fn dead_answer(
+    alloc: Global,
+    program: &Checked<'_>,
+    names: &Names,
+    question: &Query,
+    labels: &[Label],
+    dead: &[u32],
+) -> Result<Answer, AllocError>
+    requires { LeadsTo (program_of program.now.program.now) labels.now (IsWantedDead (program_of program.now.program.now) question.now dead.now) }
+    ensures { IfOk result (λ a. Answers names.now (program_of program.now.program.now) question.now a.text.items a.found) }
+{
+    let plain = replay(alloc, program, labels)?;
+    let waiting = waiting_rows(alloc, &plain, false)?;
+    let rows = rows_of(alloc, &waiting, dead)?;
     let text = stuck_text(alloc, names, labels, &rows)?;
     Ok(Answer {
         text,
@@ -84,6 +107,12 @@ fn sought_answer(
 {
     match search(alloc, program, question) {
         Ok(SearchResult::Stuck(labels)) => stuck_answer(alloc, program, names, question, &labels),
+        Ok(
+            SearchResult::Dead {
+                labels,
+                names: dead,
+            },
+        ) => { dead_answer(alloc, program, names, question, &labels, &dead) }
         Ok(SearchResult::Fault(labels)) => Ok(Answer {
             text: fault_text(alloc, names, &labels)?,
             found: Found::Shown,

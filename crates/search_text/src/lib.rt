@@ -5,6 +5,7 @@
 
 mod answer;
 mod answers;
+mod chosen;
 mod grading;
 mod shown;
 mod steps;

@@ -7,8 +7,9 @@ use pool_search::{Query, SearchResult, Target, search};
 use std::alloc::{AllocError, Global};
 use std::test::Fail;
 
-/// Whether the search finds a run, which the stepper then repeats label
-/// by label. None if the search met a bound, or the run is impossible.
+/// Whether the search finds a run to an end or an error, which the stepper then repeats label
+/// by label. None if the search met a bound, or the run is impossible. The plain search does not
+/// look for objects that are dead where others go on.
 fn found(
     alloc: Global,
     program: &Checked<'_>,
@@ -23,6 +24,9 @@ fn found(
     match search(alloc, program, &question)? {
         SearchResult::Stuck(labels) | SearchResult::Fault(labels) => {
             Ok(made(alloc, program, &labels)?.map(|_plain| true))
+        }
+        SearchResult::Dead { labels, .. } => {
+            Ok(made(alloc, program, &labels)?.map(|_plain| false))
         }
         SearchResult::Finite(_) => Ok(Some(false)),
         SearchResult::Over(_) => Ok(None),

@@ -1,0 +1,350 @@
+-- What is noted of waiters stays true, and a waiter that the labels of its entries leave as it is, is dead.
+use Rattle.std.proofs.Common.{◌≡◌, ◌⊎◌, inl, inr, refl, sym, ap, ◌∙◌, subst, ℕ, zero, suc, List, [], ◌∷◌, ◌++◌, map, Option, Some, None, Bool, true, false, not, ◌&&◌, ◌||◌, ◌==◌, ◌<◌, ◌≤◌, ◌+◌, length, set, get_or, drop, arith}
+use Rattle.std.specs.Prelude.{IfSome}
+use Rattle.std.specs.List.{slice_get}
+use Rattle.std.proofs.lemmas.List.{drop_more}
+use Rattle.std.proofs.lemmas.Option.{slice_get_within}
+use Rattle.run_types.specs.declared.types.Label.{Label}
+use Rattle.run_types.specs.Tables.{Each}
+use Rattle.run_types.proofs.Laws.{equals, equal, first, second, neither, given_by, same_some}
+use Rattle.pool_syntax.specs.Terms.{ProgramTree}
+use Rattle.pool_relation.specs.Configuration.{Configuration}
+use Rattle.pool_relation.specs.Transition.{transition, run}
+use Rattle.pool_relation.proofs.Laws.{joined}
+use Rattle.reachability.specs.Search.{WaitsAt, IsIn, IsInOrder, after, names_next}
+use Rattle.reachability.specs.Labels.{IsAmong, labels_to_try}
+use Rattle.search_laws.specs.Renamed.{IsNameless}
+use Rattle.search_laws.specs.Outcomes.{Passed}
+use Rattle.search_laws.specs.Tried.{states_only, state_of}
+use Rattle.search_laws.specs.Dead.{changes, some_changes, IsDead, CanGoOn}
+use Rattle.search_laws.specs.ClosedBeside.{beside, SettlesBeside, AtRest, GoesFreely, IsClosedBeside, IsReachedInOrder}
+use Rattle.search_laws.proofs.Laws.{all_labels, unchanged_by, dead_by_list, known_reached}
+use Rattle.pool_search.specs.Courses.{all_followed}
+use Rattle.pool_search.specs.Progress.{Entries, AllInOrder}
+use Rattle.pool_search.specs.VisitedConfigurations.{entry}
+use Rattle.pool_search.specs.Entries.{IsEntryAt}
+use Rattle.pool_search.specs.WaiterLists.{HasWaiter, IsOpen, noted, GoesOnBy, IsServed, IsKnown, AreKnown}
+use Rattle.pool_search.specs.Leads.{IsEdge, LeadsBeside, IsBeside, StaysIn, StaysAt}
+use Rattle.pool_search.specs.declared.waiters.Waiter.{Waiter}
+use Rattle.pool_search.proofs.ListGrowth.{each_at, each_weaker}
+
+-- waiters in lists
+
+pub has_more : (g : Bool) (at o : ℕ) (ws vs : List Waiter) → HasWaiter g at o ws → HasWaiter g at o (ws ++ vs)
+has_more g at o [] vs h = absurd h
+has_more g at o (w ∷ ws) vs (inl h) = inl h
+has_more g at o (w ∷ ws) vs (inr h) = inr (has_more g at o ws vs h)
+
+pub has_last : (ws : List Waiter) (w : Waiter) → HasWaiter w.goes_on w.entry w.object (ws ++ w ∷ [])
+has_last [] w = inl (refl, refl, refl)
+has_last (v ∷ ws) w = inr (has_last ws w)
+
+pub has_at : (ws : List Waiter) (i : ℕ) (w : Waiter) → slice_get ws i ≡ Some w → HasWaiter w.goes_on w.entry w.object ws
+has_at [] i w h = absurd (let z : None ≡ Some w = h in cc)
+has_at (v ∷ ws) zero w h =
+    let is : v ≡ w = cc in
+    inl (ap (λ (x : Waiter). x.goes_on) is, ap (λ (x : Waiter). x.entry) is, ap (λ (x : Waiter). x.object) is)
+has_at (v ∷ ws) (suc i) w h = inr (has_at ws i w h)
+
+pub has_found : (ws : List Waiter) (i : ℕ) (w : Waiter) (g : Bool) (at o : ℕ) → slice_get ws i ≡ Some w → w.goes_on ≡ g → w.entry ≡ at → w.object ≡ o → HasWaiter g at o ws
+has_found ws i w g at o h j k l =
+    subst (λ (b : Bool). HasWaiter b at o ws) j (subst (λ (n : ℕ). HasWaiter w.goes_on n o ws) k (subst (λ (n : ℕ). HasWaiter w.goes_on w.entry n ws) l (has_at ws i w h)))
+
+pub each_set : {X : Type 0} (P : X → Type 0) (xs : List X) (i : ℕ) (x : X) → Each P xs → P x → Each P (set xs i x)
+each_set P [] i x h k = tt
+each_set P (y ∷ xs) zero x h k = (k, h.1)
+each_set P (y ∷ xs) (suc i) x h k = (h.0, each_set P xs i x h.1 k)
+
+-- a waiter is still there where one was noted
+has_set : (g : Bool) (at o : ℕ) (ws : List Waiter) (i : ℕ) (w : Waiter) → slice_get ws i ≡ Some w → HasWaiter g at o ws
+    → HasWaiter true at o (set ws i (noted w)) ⊎ HasWaiter g at o (set ws i (noted w))
+has_set g at o [] i w h k = absurd k
+has_set g at o (v ∷ ws) zero w h (inl k) =
+    let is : v ≡ w = cc in
+    inl (inl (refl, ap (λ (x : Waiter). x.entry) (sym is) ∙ k.1, ap (λ (x : Waiter). x.object) (sym is) ∙ k.2))
+has_set g at o (v ∷ ws) zero w h (inr k) = inr (inr k)
+has_set g at o (v ∷ ws) (suc i) w h (inl k) = inr (inl k)
+has_set g at o (v ∷ ws) (suc i) w h (inr k) = by (has_set g at o ws i w h k)
+  where
+    by : HasWaiter true at o (set ws i (noted w)) ⊎ HasWaiter g at o (set ws i (noted w)) → HasWaiter true at o (v ∷ set ws i (noted w)) ⊎ HasWaiter g at o (v ∷ set ws i (noted w))
+    by (inl m) = inl (inr m)
+    by (inr m) = inr (inr m)
+
+-- what is noted
+
+some_joined : (o : ℕ) (ls ms : List Label) → some_changes o ms ≡ true → some_changes o (ls ++ ms) ≡ true
+some_joined o [] ms h = h
+some_joined o (l ∷ ls) ms h = either (changes o l) (some_changes o (ls ++ ms)) (some_joined o ls ms h)
+  where
+    either : (a b : Bool) → b ≡ true → (a || b) ≡ true
+    either true b i = refl
+    either false b i = i
+
+-- where labels change the object, or it can go on after them, it can go on before them
+pub served_by : (p : ProgramTree) (c d : Configuration) (ls : List Label) (o : ℕ) → run p c ls ≡ Some d → (some_changes o ls ≡ true) ⊎ IsServed p d o → IsServed p c o
+served_by p c d ls o r by w = at (some_changes o ls) refl by
+  where
+    at : (b : Bool) → some_changes o ls ≡ b → (some_changes o ls ≡ true) ⊎ IsServed p d o → CanGoOn p c o
+    at true j h = record { last = d; labels = ls; leads = r; changed = j }
+    at false j (inl h) = absurd (let z : true ≡ false = sym h ∙ j in cc)
+    at false j (inr h) =
+        let there = unchanged_by p c d ls o w.object w.there r j in
+        let m = h (record { object = w.object; there = there; sound = w.sound; waits = w.waits }) in
+        record { last = m.last; labels = ls ++ m.labels; leads = joined p c d ls m.labels r ∙ m.leads; changed = some_joined o ls m.labels m.changed }
+
+-- a waiter of which this is noted can go on
+known_at : (p : ProgramTree) (es : Entries) (ws : List Waiter) (at o : ℕ) (e : Passed) → Each (IsKnown p es) ws → HasWaiter true at o ws → slice_get es at ≡ Some e
+    → IsServed p e.configuration o
+known_at p es [] at o e h k g = absurd k
+known_at p es (w ∷ ws) at o e h (inl k) g =
+    subst (IsServed p e.configuration) k.2 (h.0 k.0 e (ap (slice_get es) k.1 ∙ g))
+known_at p es (w ∷ ws) at o e h (inr k) g = known_at p es ws at o e h.1 k g
+
+module _ (p : ProgramTree) (es : Entries) where
+  -- a waiter that can go on by the labels of an edge may be noted
+  pub known_noted : (ws : List Waiter) (n : ℕ) (c : Configuration) (l : Label) (made : List Label) (index at to : ℕ) → AreKnown p es ws → IsEntryAt es at n c → IsEdge p es n c l made to
+      → (g : GoesOnBy index at to made ws) → AreKnown p es (set ws index (noted g.waiter))
+  known_noted ws n c l made index at to known there edge g = record { all = all; each = each_set (IsKnown p es) ws index (noted g.waiter) known.each here }
+    where
+      o : ℕ
+      o = g.waiter.object
+
+      all : (i : ℕ) (e : Passed) (q : ℕ) → slice_get es i ≡ Some e → WaitsAt p e.configuration q
+          → HasWaiter true i q (set ws index (noted g.waiter)) ⊎ HasWaiter false i q (set ws index (noted g.waiter))
+      all i e q h w = by (known.all i e q h w)
+        where
+          by : HasWaiter true i q ws ⊎ HasWaiter false i q ws → HasWaiter true i q (set ws index (noted g.waiter)) ⊎ HasWaiter false i q (set ws index (noted g.waiter))
+          by (inl k) = both (has_set true i q ws index g.waiter g.there k)
+            where
+              both : HasWaiter true i q (set ws index (noted g.waiter)) ⊎ HasWaiter true i q (set ws index (noted g.waiter))
+                  → HasWaiter true i q (set ws index (noted g.waiter)) ⊎ HasWaiter false i q (set ws index (noted g.waiter))
+              both (inl m) = inl m
+              both (inr m) = inl m
+          by (inr k) = has_set false i q ws index g.waiter g.there k
+
+      reason : (some_changes g.waiter.object made ≡ true) ⊎ HasWaiter true to g.waiter.object ws → (some_changes g.waiter.object made ≡ true) ⊎ IsServed p edge.last g.waiter.object
+      reason (inl h) = inl h
+      reason (inr h) = inr (known_at p es ws to g.waiter.object (entry (after n l) edge.items edge.last) known.each h edge.there)
+
+      here : IsKnown p es (noted g.waiter)
+      here on e h =
+          let is : e ≡ entry n there.0 c = same_some (sym h ∙ ap (slice_get es) g.entry ∙ there.1) in
+          subst (λ (d : Configuration). IsServed p d g.waiter.object) (ap (λ (x : Passed). x.configuration) (sym is))
+          (served_by p c edge.last made g.waiter.object edge.leads (reason g.by))
+
+  -- if all are noted, each object that waits can go on
+  all_served : (ws : List Waiter) → AreKnown p es ws → Each (λ (w : Waiter). w.goes_on ≡ true) ws → (at o : ℕ) (e : Passed) → slice_get es at ≡ Some e → IsServed p e.configuration o
+  all_served ws known all at o e g w = by (known.all at e o g w)
+    where
+      none : (vs : List Waiter) → Each (λ (v : Waiter). v.goes_on ≡ true) vs → HasWaiter false at o vs → ⊥
+      none [] h k = k
+      none (v ∷ vs) h (inl k) = absurd (let z : true ≡ false = sym h.0 ∙ k.0 in cc)
+      none (v ∷ vs) h (inr k) = none vs h.1 k
+
+      by : HasWaiter true at o ws ⊎ HasWaiter false at o ws → CanGoOn p e.configuration o
+      by (inl k) = known_at p es ws at o e known.each k g w
+      by (inr k) = absurd (none ws all k)
+
+-- where a configuration is in the list
+place_in : (es : Entries) (n : ℕ) (c : Configuration) → IsIn n c (map state_of es) → (at : ℕ) × (e : Passed) × (slice_get es at ≡ Some e) × (e.configuration ≡ c)
+place_in [] n c i = absurd i
+place_in (e ∷ es) n c (inl i) = (0, e, refl, i.1)
+place_in (e ∷ es) n c (inr i) = let r = place_in es n c i in (suc r.0, r.1, r.2, r.3)
+
+pub all_go_on_in : (p : ProgramTree) (es : Entries) (ws : List Waiter) → AreKnown p es ws → Each (λ (w : Waiter). w.goes_on ≡ true) ws
+    → (n : ℕ) (c : Configuration) (o : ℕ) → IsIn n c (map state_of es) → WaitsAt p c o → CanGoOn p c o
+all_go_on_in p es ws known all n c o i =
+    let r = place_in es n c i in
+    subst (λ (d : Configuration). IsServed p d o) r.3 (all_served p es ws known all r.0 o r.1 r.2)
+
+-- how the list is made
+
+split : (a b : ℕ) → (a < b) ⊎ (b ≤ a)
+split zero zero = inr (omega arith)
+split zero (suc b) = inl (omega arith)
+split (suc a) zero = inr (omega arith)
+split (suc a) (suc b) = by (split a b)
+  where
+    by : (a < b) ⊎ (b ≤ a) → (suc a < suc b) ⊎ (suc b ≤ suc a)
+    by (inl h) = inl (omega arith)
+    by (inr h) = inr (omega arith)
+
+-- one more object of an entry
+pub added_more : (p : ProgramTree) (c : Configuration) (ws : List Waiter) (at o from : ℕ) → ((q : ℕ) → q < from → WaitsAt p c q → HasWaiter false at q ws) → ((q : ℕ) → from ≤ q → WaitsAt p c q → o ≤ q)
+    → (q : ℕ) → q < o + 1 → WaitsAt p c q → HasWaiter false at q (ws ++ record { entry = at; object = o; goes_on = false } ∷ [])
+added_more p c ws at o from before least q below waits = by (split q from)
+  where
+    by : (q < from) ⊎ (from ≤ q) → HasWaiter false at q (ws ++ record { entry = at; object = o; goes_on = false } ∷ [])
+    by (inl h) = has_more false at q ws (record { entry = at; object = o; goes_on = false } ∷ []) (before q h waits)
+    by (inr h) =
+        let l : o ≤ q = least q h waits in
+        let is : o ≡ q = omega arith in
+        subst (λ (n : ℕ). HasWaiter false at n (ws ++ record { entry = at; object = o; goes_on = false } ∷ [])) is (has_last ws (record { entry = at; object = o; goes_on = false }))
+
+-- one more entry
+pub filled_more : (p : ProgramTree) (es : Entries) (ws vs added : List Waiter) (at : ℕ) (c : Configuration)
+    → ((i : ℕ) (e : Passed) (o : ℕ) → i < at → slice_get es i ≡ Some e → WaitsAt p e.configuration o → HasWaiter false i o ws) → vs ≡ ws ++ added
+    → IfSome (slice_get es at) (λ (e : Passed). c ≡ e.configuration) → ((o : ℕ) → WaitsAt p c o → HasWaiter false at o vs) → (i : ℕ) (e : Passed) (o : ℕ) → i < at + 1 → slice_get es i ≡ Some e
+    → WaitsAt p e.configuration o → HasWaiter false i o vs
+filled_more p es ws vs added at c before grown same here i e o below g waits = by (split i at)
+  where
+    by : (i < at) ⊎ (at ≤ i) → HasWaiter false i o vs
+    by (inl h) = subst (HasWaiter false i o) (sym grown) (has_more false i o ws added (before i e o h g waits))
+    by (inr h) =
+        let is : at ≡ i = omega arith in
+        let there : slice_get es at ≡ Some e = ap (slice_get es) is ∙ g in
+        let equal : c ≡ e.configuration = subst (λ (r : Option Passed). IfSome r (λ (f : Passed). c ≡ f.configuration)) there same in
+        subst (λ (n : ℕ). HasWaiter false n o vs) is (here o (subst (λ (d : Configuration). WaitsAt p d o) (sym equal) waits))
+
+pub known_filled : (p : ProgramTree) (es : Entries) (ws : List Waiter) (at : ℕ) → Each IsOpen ws → length es ≤ at
+    → ((i : ℕ) (e : Passed) (o : ℕ) → i < at → slice_get es i ≡ Some e → WaitsAt p e.configuration o → HasWaiter false i o ws) → AreKnown p es ws
+known_filled p es ws at none all filled = record {
+  all = λ i e o g w. inr (filled i e o (inside i e g) g w);
+  each = each_weaker IsOpen (IsKnown p es) (λ w h on. absurd (let z : true ≡ false = sym on ∙ h in cc)) ws none;
+}
+  where
+    inside : (i : ℕ) (e : Passed) → slice_get es i ≡ Some e → i < at
+    inside i e g = let h : i < length es = slice_get_within es i e g in omega arith
+
+-- one more waiter of a list that is looked through
+pub one_more_stays : (p q : ProgramTree) (es fs : Entries) (ws items : List Waiter) (o i : ℕ) (d : Waiter) → q ≡ p → fs ≡ es → i < length items → StaysAt q fs ws o (get_or items i d)
+    → (Each (StaysAt p es ws o) (drop i items) → Each (StaysAt p es ws o) items) → Each (StaysAt p es ws o) (drop (i + 1) items) → Each (StaysAt p es ws o) items
+one_more_stays p q es fs ws items o i d programs lists inside here so_far rest =
+    so_far
+    (subst (Each (StaysAt p es ws o)) (sym (drop_more items i d inside))
+    (subst (λ (t : ProgramTree). StaysAt t es ws o (get_or items i d)) programs (subst (λ (gs : Entries). StaysAt q gs ws o (get_or items i d)) lists here), rest))
+
+-- entries in which an object waits and is not known to go on
+
+abbrev pick : Bool → Option Passed → List (ℕ × Configuration)
+pick true (Some e) = state_of e ∷ []
+pick true None = []
+pick false r = []
+
+abbrev is_open : ℕ → Waiter → Bool
+is_open o w = (w.object == o) && not w.goes_on
+
+abbrev open_states : ℕ → Entries → List Waiter → List (ℕ × Configuration)
+open_states o es [] = []
+open_states o es (w ∷ ws) = pick (is_open o w) (slice_get es w.entry) ++ open_states o es ws
+
+in_left : (n : ℕ) (c : Configuration) (xs ys : List (ℕ × Configuration)) → IsIn n c xs → IsIn n c (xs ++ ys)
+in_left n c [] ys i = absurd i
+in_left n c (x ∷ xs) ys (inl i) = inl i
+in_left n c (x ∷ xs) ys (inr i) = inr (in_left n c xs ys i)
+
+in_right : (n : ℕ) (c : Configuration) (xs ys : List (ℕ × Configuration)) → IsIn n c ys → IsIn n c (xs ++ ys)
+in_right n c [] ys i = i
+in_right n c (x ∷ xs) ys i = inr (in_right n c xs ys i)
+
+in_joined : (n : ℕ) (c : Configuration) (xs ys : List (ℕ × Configuration)) → IsIn n c (xs ++ ys) → IsIn n c xs ⊎ IsIn n c ys
+in_joined n c [] ys i = inr i
+in_joined n c (x ∷ xs) ys (inl i) = inl (inl i)
+in_joined n c (x ∷ xs) ys (inr i) = by (in_joined n c xs ys i)
+  where
+    by : IsIn n c xs ⊎ IsIn n c ys → IsIn n c (x ∷ xs) ⊎ IsIn n c ys
+    by (inl j) = inl (inr j)
+    by (inr j) = inr j
+
+in_pick : (b : Bool) (r : Option Passed) (e : Passed) → b ≡ true → r ≡ Some e → IsIn e.next e.configuration (pick b r)
+in_pick false r e h k = absurd (let z : false ≡ true = h in cc)
+in_pick true None e h k = absurd (let z : None ≡ Some e = k in cc)
+in_pick true (Some x) e h k = let is : x ≡ e = same_some k in inl (ap (λ (y : Passed). y.next) is, ap (λ (y : Passed). y.configuration) is)
+
+in_open : (o at : ℕ) (es : Entries) (ws : List Waiter) (e : Passed) → HasWaiter false at o ws → slice_get es at ≡ Some e → IsIn e.next e.configuration (open_states o es ws)
+in_open o at es [] e k g = absurd k
+in_open o at es (w ∷ ws) e (inl k) g =
+    in_left e.next e.configuration (pick (is_open o w) (slice_get es w.entry)) (open_states o es ws)
+    (in_pick (is_open o w) (slice_get es w.entry) e unnoted (ap (slice_get es) k.1 ∙ g))
+  where
+    unnoted : is_open o w ≡ true
+    unnoted = ap (λ (b : Bool). (w.object == o) && not b) k.0 ∙ ap (λ (q : ℕ). (q == o) && true) k.2 ∙ ap (λ (b : Bool). b && true) (equals o)
+in_open o at es (w ∷ ws) e (inr k) g = in_right e.next e.configuration (pick (is_open o w) (slice_get es w.entry)) (open_states o es ws) (in_open o at es ws e k g)
+
+module _ (p : ProgramTree) (es : Entries) (all : List Waiter) (o : ℕ) where
+  -- an entry of this configuration in which the object stays as it is
+  record Found (n : ℕ) (c : Configuration) : Type 0 where
+    at : ℕ
+    e : Passed
+    there : slice_get es at ≡ Some e
+    next : e.next ≡ n
+    is : e.configuration ≡ c
+    stays : StaysIn p es all o e
+
+  found_in : (ws : List Waiter) (n : ℕ) (c : Configuration) → Each (StaysAt p es all o) ws → IsIn n c (open_states o es ws) → Found n c
+  found_in [] n c h i = absurd i
+  found_in (w ∷ ws) n c h i = by (in_joined n c (pick (is_open o w) (slice_get es w.entry)) (open_states o es ws) i) (λ j. found_in ws n c h.1 j)
+    where
+      here : (b : Bool) (r : Option Passed) → is_open o w ≡ b → slice_get es w.entry ≡ r → IsIn n c (pick b r) → Found n c
+      here false r j k i = absurd i
+      here true None j k i = absurd i
+      here true (Some e) j k (inr i) = absurd i
+      here true (Some e) j k (inl i) =
+          let closed : w.goes_on ≡ false = off w.goes_on (second (w.object == o) (not w.goes_on) j) in
+          record { at = w.entry; e = e; there = k; next = i.0; is = i.1; stays = h.0 (equal w.object o (first (w.object == o) (not w.goes_on) j)) closed e k }
+        where
+          off : (b : Bool) → not b ≡ true → b ≡ false
+          off true z = absurd (let y : false ≡ true = z in cc)
+          off false z = refl
+
+      by : IsIn n c (pick (is_open o w) (slice_get es w.entry)) ⊎ IsIn n c (open_states o es ws) → (IsIn n c (open_states o es ws) → Found n c) → Found n c
+      by (inl j) rest = here (is_open o w) (slice_get es w.entry) refl refl j
+      by (inr j) rest = rest j
+
+  leads_beside : (n : ℕ) (c d : Configuration) (l : Label) (ls : List Label) → Each (IsBeside p es all o n c) ls → IsAmong l ls → transition p c l ≡ Some d → LeadsBeside p es all o n c l
+  leads_beside n c d l [] h i t = absurd i
+  leads_beside n c d l (m ∷ ls) h (inr i) t = leads_beside n c d l ls h.1 i t
+  leads_beside n c d l (m ∷ ls) h (inl i) t = subst (LeadsBeside p es all o n c) i (by h.0)
+    where
+      by : IsBeside p es all o n c m → LeadsBeside p es all o n c m
+      by (inl z) = absurd (let y : None ≡ Some d = sym z ∙ ap (transition p c) i ∙ t in cc)
+      by (inr r) = r
+
+  settles : (d e : Configuration) (ls : List Label) → all_followed states_only ls ≡ true → some_changes o ls ≡ false → run p d ls ≡ Some e → SettlesBeside p o d e
+  settles d e [] free still r = subst (SettlesBeside p o d) (same_some r) AtRest
+  settles d e (l ∷ ls) free still r =
+      let s = given_by (transition p d l) (λ (x : Configuration). run p x ls) e r in
+      let n = neither (changes o l) (some_changes o ls) still in
+      GoesFreely l (first (states_only.follows l) (all_followed states_only ls) free) (ap not n.0) s.1 (settles s.0 e ls (second (states_only.follows l) (all_followed states_only ls) free) n.1 s.2)
+
+  -- what one label of an entry does
+  record Goes (n : ℕ) (d : Configuration) (l : Label) : Type 0 where
+    still : changes o l ≡ false
+    to : Configuration
+    settled : SettlesBeside p o d to
+    is_in : IsIn (after n l) to (open_states o es all)
+
+  goes : (n : ℕ) (c d : Configuration) (l : Label) → transition p c l ≡ Some d → LeadsBeside p es all o n c l → Goes n d l
+  goes n c d l t r =
+      let whole : run p c (l ∷ r.edge.settled) ≡ Some r.edge.last = ap (run p c) (sym r.edge.is) ∙ r.edge.leads in
+      let s = given_by (transition p c l) (λ (x : Configuration). run p x r.edge.settled) r.edge.last whole in
+      let is : s.0 ≡ d = same_some (sym s.1 ∙ t) in
+      let n' = neither (changes o l) (some_changes o r.edge.settled) (ap (some_changes o) (sym r.edge.is) ∙ r.beside) in
+      record {
+        still = n'.0;
+        to = r.edge.last;
+        settled = settles d r.edge.last r.edge.settled r.edge.free n'.1 (subst (λ (x : Configuration). run p x r.edge.settled ≡ Some r.edge.last) is s.2);
+        is_in = in_open o r.to es all (entry (after n l) r.edge.items r.edge.last) r.waits r.edge.there;
+      }
+
+  closed_beside : AllInOrder es → Each (StaysAt p es all o) all → IsClosedBeside p o (open_states o es all)
+  closed_beside sorted stays = record {
+    in_order = λ n c i. let f = found_in all n c stays i in subst IsInOrder f.is (each_at (λ (e : Passed). IsInOrder e.configuration) es f.at f.e sorted f.there);
+    beside = λ n c d l i named t. (by n c d l i named t).still;
+    closed = λ n c d l i named t. let g = by n c d l i named t in (g.to, g.settled, g.is_in);
+  }
+    where
+      by : (n : ℕ) (c d : Configuration) (l : Label) → IsIn n c (open_states o es all) → names_next n l ≡ true → transition p c l ≡ Some d → Goes n d l
+      by n c d l i named t =
+          let f = found_in all n c stays i in
+          let beside : Each (IsBeside p es all o n c) (labels_to_try p n c) =
+          subst (λ (m : ℕ). Each (IsBeside p es all o m c) (labels_to_try p m c)) f.next
+          (subst (λ (x : Configuration). Each (IsBeside p es all o f.e.next x) (labels_to_try p f.e.next x)) f.is f.stays)
+          in
+          goes n c d l t (leads_beside n c d l (labels_to_try p n c) beside (all_labels p c d n l named t) t)
+
+  -- an object that waits and that the labels of its entries leave as it is, is dead
+  pub dead_by_waiters : IsNameless p → AllInOrder es → Each (StaysAt p es all o) all → (at : ℕ) (e : Passed) → HasWaiter false at o all → slice_get es at ≡ Some e
+      → IsReachedInOrder p e.next e.configuration → WaitsAt p e.configuration o → IsDead p e.configuration o
+  dead_by_waiters less sorted stays at e has there reached waits =
+      dead_by_list p less o e.next (open_states o es all) e.configuration (closed_beside sorted stays) (in_open o at es all e has there) (known_reached p less e.next e.configuration reached) waits

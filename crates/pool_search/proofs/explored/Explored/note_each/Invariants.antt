@@ -1,0 +1,13 @@
+use Rattle.std.proofs.Common.{◌≡◌}
+use Rattle.pool_search.specs.Entries.{entries, searched}
+use Rattle.pool_search.specs.WaiterLists.{AreKnown}
+use Rattle.pool_search.proofs.explored.Explored.note_each.Given as goal
+
+-- what is noted is so
+abbrev pub invariant-loop-at : goal.invariant-loop-at
+invariant-loop-at l =
+    record {
+      same : entries l.self ≡ entries l.initial.self;
+      program : searched l.self ≡ searched l.initial.self;
+      known : AreKnown (searched l.initial.self) (entries l.initial.self) l.waiters.list.items;
+    }

@@ -1,0 +1,49 @@
+-- Where the labels of an entry lead, and entries that no label leaves and in which no label changes an object.
+use Rattle.std.specs.Prelude.{◌≡◌, ◌⊎◌, ℕ, List, ◌∷◌, Some, None, true, false, slice_get}
+use Rattle.run_types.specs.declared.types.Item.{Item}
+use Rattle.run_types.specs.declared.types.Label.{Label}
+use Rattle.run_types.specs.Tables.{Each}
+use Rattle.pool_syntax.specs.Terms.{ProgramTree}
+use Rattle.pool_relation.specs.Configuration.{Configuration}
+use Rattle.pool_relation.specs.Transition.{transition, run}
+use Rattle.reachability.specs.Search.{after}
+use Rattle.reachability.specs.Labels.{labels_to_try}
+use Rattle.search_laws.specs.Outcomes.{Passed}
+use Rattle.search_laws.specs.Tried.{states_only}
+use Rattle.search_laws.specs.Dead.{some_changes}
+use Rattle.pool_search.specs.Courses.{all_followed}
+use Rattle.pool_search.specs.Progress.{Entries}
+use Rattle.pool_search.specs.VisitedConfigurations.{entry}
+use Rattle.pool_search.specs.WaiterLists.{HasWaiter}
+use Rattle.pool_search.specs.declared.waiters.Waiter.{Waiter}
+
+-- from c, with the next name n, the label l leads to the entry `to`; `made` are the label and those that settle after it
+pub record IsEdge (p : ProgramTree) (es : Entries) (n : ℕ) (c : Configuration) (l : Label) (made : List Label) (to : ℕ) : Type 0 where
+  pub settled : List Label
+  pub is : made ≡ l ∷ settled
+  pub free : all_followed states_only settled ≡ true
+  pub last : Configuration
+  pub leads : run p c made ≡ Some last
+  pub items : List Item
+  pub there : slice_get es to ≡ Some (entry (after n l) items last)
+
+module _ (p : ProgramTree) (es : Entries) (ws : List Waiter) (o : ℕ) where
+  -- the label leads to an entry in which the object waits and is not known to go on, and nothing on the way changes it
+  pub record LeadsBeside (n : ℕ) (c : Configuration) (l : Label) : Type 0 where
+    pub made : List Label
+    pub to : ℕ
+    pub edge : IsEdge p es n c l made to
+    pub beside : some_changes o made ≡ false
+    pub waits : HasWaiter false to o ws
+
+  -- the label is impossible or does so
+  abbrev pub IsBeside : ℕ → Configuration → Label → Type 0
+  IsBeside n c l = (transition p c l ≡ None) ⊎ LeadsBeside n c l
+
+  -- so is each label of the entry
+  abbrev pub StaysIn : Passed → Type 0
+  StaysIn e = Each (IsBeside e.next e.configuration) (labels_to_try p e.next e.configuration)
+
+  -- so is each label of the entry of the waiter, if the waiter is the object and not known to go on
+  abbrev pub StaysAt : Waiter → Type 0
+  StaysAt w = w.object ≡ o → w.goes_on ≡ false → (e : Passed) → slice_get es w.entry ≡ Some e → StaysIn e

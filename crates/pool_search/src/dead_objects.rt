@@ -1,0 +1,198 @@
+//! The dead objects of an entry, after a search has kept its whole list.
+//!
+//! Each is checked by itself, so no proof depends on how the waiters were noted.
+ghost use Rattle.std.specs.Prelude.{◌≡◌, Ok, Some, IfOk, IfSome, OnOk, slice_get, true, false};
+ghost use Rattle.run_types.specs.Tables.{Each};
+ghost use Rattle.pool_semantics.specs.PlainOf.{configuration_of, program_tree, is_spent};
+ghost use Rattle.reachability.specs.Search.{WaitsAt};
+ghost use Rattle.search_laws.specs.Outcomes.{Passed};
+ghost use Rattle.search_laws.specs.Dead.{IsDead};
+ghost use Rattle.search_laws.specs.ClosedBeside.{IsReachedInOrder};
+ghost use Rattle.pool_search.specs.Entries.{IsEntryAt, entries, searched};
+ghost use Rattle.pool_search.specs.Leads.{IsBeside, StaysAt, StaysIn};
+ghost use Rattle.pool_search.specs.Progress.{AllInOrder};
+
+use crate::changes::some_changes;
+use crate::explored::Explored;
+use crate::going_on::Lead;
+use crate::waiters::{Waiter, Waiters};
+use pool_semantics::Plain;
+use run_types::Label;
+use std::alloc::{AllocError, Global};
+
+impl<'a> Explored<'a> {
+    /// Whether a label of entry `at`, where the stepper is, is impossible, or leads to an entry in which the object waits
+    /// and is not known to go on, without a change of the object. Returns the stepper to the entry. An error means out of
+    /// memory.
+    fn is_beside(
+        &mut self,
+        plain: &mut Plain<'a>,
+        waiters: &Waiters,
+        object: u32,
+        at: u32,
+        next: u32,
+        label: &Label,
+        made: &mut Vec<Label>,
+    ) -> Result<bool, AllocError>
+        requires fresh { is_spent plain.old ≡ false }
+        requires program { program_tree plain.old ≡ searched self.old }
+        requires there { IsEntryAt (entries self.old) at next (configuration_of plain.old) }
+        ensures same { entries self.new ≡ entries self.old }
+        ensures program { searched self.new ≡ searched self.old }
+        ensures again { OnOk result (configuration_of plain.new ≡ configuration_of plain.old) }
+        ensures same_program { OnOk result (program_tree plain.new ≡ program_tree plain.old) }
+        ensures fresh { OnOk result (is_spent plain.new ≡ false) }
+        ensures beside { result ≡ Ok true → IsBeside (searched self.old) (entries self.old) waiters.now.list.items object next (configuration_of plain.old) label.now }
+    {
+        match self.lead(plain, at, next, label, made) {
+            Ok(Lead::Nowhere) => Ok(true),
+            Ok(Lead::To(to)) => {
+                if some_changes(object, made) {
+                    return Ok(false);
+                }
+                Ok(waiters.has(false, to, object))
+            }
+            Ok(Lead::Unknown) => Ok(false),
+            Err(_) => Err(AllocError),
+        }
+    }
+
+    /// The same of all these labels.
+    fn are_beside(
+        &mut self,
+        alloc: Global,
+        plain: &mut Plain<'a>,
+        waiters: &Waiters,
+        object: u32,
+        at: u32,
+        next: u32,
+        labels: &[Label],
+    ) -> Result<bool, AllocError>
+        requires fresh { is_spent plain.old ≡ false }
+        requires program { program_tree plain.old ≡ searched self.old }
+        requires there { IsEntryAt (entries self.old) at next (configuration_of plain.old) }
+        ensures same { entries self.new ≡ entries self.old }
+        ensures program { searched self.new ≡ searched self.old }
+        ensures beside { result ≡ Ok true → Each (IsBeside (searched self.old) (entries self.old) waiters.now.list.items object next (configuration_of plain.old)) labels.now }
+    {
+        let mut made = Vec::new(alloc);
+        for label in labels {
+            match self.is_beside(plain, waiters, object, at, next, label, &mut made) {
+                Ok(true) => {}
+                Ok(false) => return Ok(false),
+                Err(_) => return Err(AllocError),
+            }
+        }
+        Ok(true)
+    }
+
+    /// The same of all labels of entry `at`. `false` if there is no such entry. An error means out of memory.
+    fn stays_in(
+        &mut self,
+        alloc: Global,
+        waiters: &Waiters,
+        object: u32,
+        at: u32,
+    ) -> Result<bool, AllocError>
+        ensures same { entries self.new ≡ entries self.old }
+        ensures program { searched self.new ≡ searched self.old }
+        ensures stays { result ≡ Ok true → (e : Passed) → slice_get (entries self.old) at ≡ Some e → StaysIn (searched self.old) (entries self.old) waiters.now.list.items object e }
+    {
+        if at as usize >= self.kept.len() {
+            return Ok(false);
+        }
+        let next = self.kept.next_name(at as usize);
+        let mut plain = self.kept.configuration(at as usize)?;
+        let mut labels = Vec::new(alloc);
+        plain.labels(next, &mut labels)?;
+        self.are_beside(alloc, &mut plain, waiters, object, at, next, &labels)
+    }
+
+    /// The same of the entry of a waiter, if the waiter is the object and not known to go on.
+    fn stays_at(
+        &mut self,
+        alloc: Global,
+        waiters: &Waiters,
+        object: u32,
+        waiter: Waiter,
+    ) -> Result<bool, AllocError>
+        ensures same { entries self.new ≡ entries self.old }
+        ensures program { searched self.new ≡ searched self.old }
+        ensures stays { result ≡ Ok true → StaysAt (searched self.old) (entries self.old) waiters.now.list.items object waiter }
+    {
+        if waiter.object != object {
+            return Ok(true);
+        }
+        if waiter.goes_on {
+            return Ok(true);
+        }
+        self.stays_in(alloc, waiters, object, waiter.entry)
+    }
+
+    /// The same of all entries in which the object waits and is not known to go on. An error means out of memory.
+    fn stays(&mut self, alloc: Global, waiters: &Waiters, object: u32) -> Result<bool, AllocError>
+        ensures same { entries self.new ≡ entries self.old }
+        ensures program { searched self.new ≡ searched self.old }
+        ensures stays { result ≡ Ok true → Each (StaysAt (searched self.old) (entries self.old) waiters.now.list.items object) waiters.now.list.items }
+    {
+        for waiter in waiters.list.as_slice() {
+            match self.stays_at(alloc, waiters, object, *waiter) {
+                Ok(true) => {}
+                Ok(false) => return Ok(false),
+                Err(_) => return Err(AllocError),
+            }
+        }
+        Ok(true)
+    }
+
+    /// Whether the object, which waits in entry `at`, is dead there. `false` also if this is not known. An error means out
+    /// of memory.
+    fn is_dead(
+        &mut self,
+        alloc: Global,
+        waiters: &Waiters,
+        at: u32,
+        object: u32,
+    ) -> Result<bool, AllocError>
+        requires { AllInOrder (entries self.old) }
+        ensures same { entries self.new ≡ entries self.old }
+        ensures program { searched self.new ≡ searched self.old }
+        ensures dead { result ≡ Ok true → (e : Passed) → slice_get (entries self.old) at ≡ Some e → IsReachedInOrder (searched self.old) e.next e.configuration
+            → WaitsAt (searched self.old) e.configuration object → IsDead (searched self.old) e.configuration object }
+    {
+        if !waiters.has(false, at, object) {
+            return Ok(false);
+        }
+        self.stays(alloc, waiters, object)
+    }
+
+    /// The dead objects of entry `at`, where the stepper is. Not all, if some are not known. An error means out of memory.
+    pub fn dead_at(
+        &mut self,
+        alloc: Global,
+        waiters: &Waiters,
+        plain: &Plain<'_>,
+        at: u32,
+    ) -> Result<Vec<u32>, AllocError>
+        requires program { program_tree plain.now ≡ searched self.old }
+        requires in_order { AllInOrder (entries self.old) }
+        requires there { IfSome (slice_get (entries self.old) at) (λ e. configuration_of plain.now ≡ e.configuration) }
+        ensures { IfOk result (λ v. (e : Passed) → slice_get (entries self.old) at ≡ Some e → IsReachedInOrder (searched self.old) e.next e.configuration
+            → Each (IsDead (searched self.old) e.configuration) v.items) }
+    {
+        let mut names = Vec::new(alloc);
+        let mut from = 0;
+        while let Some(waiting) = plain.waiting(from) {
+            match self.is_dead(alloc, waiters, at, waiting.object) {
+                Ok(true) => names.push(waiting.object)?,
+                Ok(false) => {}
+                Err(_) => return Err(AllocError),
+            }
+            match waiting.object.checked_add(1) {
+                Some(next) => from = next,
+                None => return Ok(names),
+            }
+        }
+        Ok(names)
+    }
+}

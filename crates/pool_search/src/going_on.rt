@@ -1,0 +1,241 @@
+//! Follows the labels of the entries of a whole list, to note which waiters can go on.
+ghost use Rattle.std.specs.Prelude.{◌≡◌, ◌<◌, ◌∷◌, ℕ, [], Ok, Some, None, IfOk, IfSome, OnOk, length, false};
+ghost use Rattle.pool_relation.specs.Configuration.{Configuration};
+ghost use Rattle.pool_relation.specs.Transition.{transition};
+ghost use Rattle.pool_semantics.specs.PlainOf.{configuration_of, program_tree, is_spent};
+ghost use Rattle.pool_search.specs.Entries.{IsEntryAt, entries, searched};
+ghost use Rattle.pool_search.specs.Leads.{IsEdge};
+ghost use Rattle.pool_search.specs.WaiterLists.{AreKnown};
+
+use crate::explored::{Explored, name_after};
+use crate::scope::Keeps;
+use crate::settling::settle_shown;
+use crate::waiters::Waiters;
+use pool_semantics::{Plain, Refuse};
+use run_types::Label;
+use std::alloc::{AllocError, Global};
+
+/// Where a label of an entry leads.
+#[derive(Clone, Copy)]
+pub enum Lead {
+    /// The label is impossible.
+    Nowhere,
+    /// It leads to the entry with this number.
+    To(u32),
+    /// The search met a bound, or has no such entry. This does not happen after a search that has kept its whole list.
+    Unknown,
+}
+
+impl<'a> Explored<'a> {
+    /// Settles after a label of entry `at`, and finds the entry there. `made` gets the labels that settle. None if there
+    /// is none, or a bound is met. An error means out of memory.
+    fn settle_and_find(
+        &mut self,
+        plain: &mut Plain<'a>,
+        at: u32,
+        next: u32,
+        label: &Label,
+        made: &mut Vec<Label>,
+    ) -> Result<Option<u32>, AllocError>
+        requires fresh { is_spent plain.old ≡ false }
+        requires program { program_tree plain.old ≡ searched self.old }
+        requires exists { at < length (entries self.old) }
+        ensures same { entries self.new ≡ entries self.old }
+        ensures program { searched self.new ≡ searched self.old }
+        ensures edge { (c : Configuration) → transition (searched self.old) c label.now ≡ Some (configuration_of plain.old) → made.old.items ≡ label.now ∷ []
+            → IfOk result (λ o. IfSome o (λ to. IsEdge (searched self.old) (entries self.old) next c label.now made.new.items to)) }
+    {
+        let Some(after) = name_after(next, label) else {
+            return Ok(None);
+        };
+        match settle_shown(plain, Keeps::States, made) {
+            Ok(true) => {}
+            Ok(false) => return Ok(None),
+            Err(_) => return Err(AllocError),
+        }
+        let written = self.kept.written(at as usize);
+        self.kept.find(plain, after, written)
+    }
+
+    /// Follows a label of entry `at`, where the stepper is, and returns the stepper there. `made` becomes the label and
+    /// those that settle after it. An error means out of memory.
+    pub fn lead(
+        &mut self,
+        plain: &mut Plain<'a>,
+        at: u32,
+        next: u32,
+        label: &Label,
+        made: &mut Vec<Label>,
+    ) -> Result<Lead, AllocError>
+        requires fresh { is_spent plain.old ≡ false }
+        requires program { program_tree plain.old ≡ searched self.old }
+        requires there { IsEntryAt (entries self.old) at next (configuration_of plain.old) }
+        ensures same { entries self.new ≡ entries self.old }
+        ensures program { searched self.new ≡ searched self.old }
+        ensures again { OnOk result (configuration_of plain.new ≡ configuration_of plain.old) }
+        ensures same_program { OnOk result (program_tree plain.new ≡ program_tree plain.old) }
+        ensures fresh { OnOk result (is_spent plain.new ≡ false) }
+        ensures nowhere { result ≡ Ok Lead.Nowhere → transition (searched self.old) (configuration_of plain.old) label.now ≡ None }
+        ensures edge { (to : ℕ) → result ≡ Ok (Lead.To to) → IsEdge (searched self.old) (entries self.old) next (configuration_of plain.old) label.now made.new.items to }
+    {
+        match plain.apply(label) {
+            Ok(()) => {}
+            Err(Refuse::NotPossible { .. }) => return Ok(Lead::Nowhere),
+            Err(Refuse::Memory) => return Err(AllocError),
+        }
+        made.clear();
+        made.push(*label)?;
+        let to = self.settle_and_find(plain, at, next, label, made)?;
+        *plain = self.kept.configuration(at as usize)?;
+        match to {
+            Some(to) => Ok(Lead::To(to)),
+            None => Ok(Lead::Unknown),
+        }
+    }
+
+    /// The waiters of all entries, none of them known to go on. None if a number of 32 bits is left for no entry or
+    /// name. An error means out of memory.
+    pub fn waiters(&self, alloc: Global) -> Result<Option<Waiters>, AllocError>
+        ensures { IfOk result (λ o. IfSome o (λ w. AreKnown (searched self.now) (entries self.now) w.list.items)) }
+    {
+        let mut waiters = Waiters::make(alloc);
+        for at in 0..self.kept.len() {
+            let Ok(entry) = u32::try_from(at) else {
+                return Ok(None);
+            };
+            let plain = self.kept.configuration(at)?;
+            match waiters.add(entry, &plain) {
+                Ok(true) => {}
+                Ok(false) => return Ok(None),
+                Err(_) => return Err(AllocError),
+            }
+        }
+        Ok(Some(waiters))
+    }
+
+    /// Follows a label of entry `at`, where the stepper is, and notes the waiters of the entry that can go on by it.
+    /// Whether one was noted. An error means out of memory.
+    fn note_by(
+        &mut self,
+        plain: &mut Plain<'a>,
+        waiters: &mut Waiters,
+        at: u32,
+        next: u32,
+        label: &Label,
+        made: &mut Vec<Label>,
+    ) -> Result<bool, AllocError>
+        requires fresh { is_spent plain.old ≡ false }
+        requires program { program_tree plain.old ≡ searched self.old }
+        requires there { IsEntryAt (entries self.old) at next (configuration_of plain.old) }
+        requires known { AreKnown (searched self.old) (entries self.old) waiters.old.list.items }
+        ensures same { entries self.new ≡ entries self.old }
+        ensures program { searched self.new ≡ searched self.old }
+        ensures again { OnOk result (configuration_of plain.new ≡ configuration_of plain.old) }
+        ensures same_program { OnOk result (program_tree plain.new ≡ program_tree plain.old) }
+        ensures fresh { OnOk result (is_spent plain.new ≡ false) }
+        ensures known { OnOk result (AreKnown (searched self.old) (entries self.old) waiters.new.list.items) }
+    {
+        let to = match self.lead(plain, at, next, label, made) {
+            Ok(Lead::To(to)) => to,
+            Ok(_) => return Ok(false),
+            Err(_) => return Err(AllocError),
+        };
+        let (from, until) = waiters.row(at);
+        let mut noted = false;
+        for index in from..until {
+            if waiters.goes_on_by(index, at, to, made) {
+                waiters.note(index);
+                noted = true;
+            }
+        }
+        Ok(noted)
+    }
+
+    /// Follows these labels of entry `at`, where the stepper is, and notes the waiters of the entry that can go on by
+    /// them, until all are noted. Whether one was noted. An error means out of memory.
+    fn note_by_all(
+        &mut self,
+        alloc: Global,
+        plain: &mut Plain<'a>,
+        waiters: &mut Waiters,
+        at: u32,
+        next: u32,
+        labels: &[Label],
+    ) -> Result<bool, AllocError>
+        requires fresh { is_spent plain.old ≡ false }
+        requires program { program_tree plain.old ≡ searched self.old }
+        requires there { IsEntryAt (entries self.old) at next (configuration_of plain.old) }
+        requires known { AreKnown (searched self.old) (entries self.old) waiters.old.list.items }
+        ensures same { entries self.new ≡ entries self.old }
+        ensures program { searched self.new ≡ searched self.old }
+        ensures known { OnOk result (AreKnown (searched self.old) (entries self.old) waiters.new.list.items) }
+    {
+        let mut made = Vec::new(alloc);
+        let mut noted = false;
+        for label in labels {
+            if !waiters.any_open(at) {
+                return Ok(noted);
+            }
+            match self.note_by(plain, waiters, at, next, label, &mut made) {
+                Ok(true) => noted = true,
+                Ok(false) => {}
+                Err(_) => return Err(AllocError),
+            }
+        }
+        Ok(noted)
+    }
+
+    /// Notes the waiters of entry `at` that can go on by its labels. Whether one was noted. An error means out of memory.
+    fn note_at(&mut self, alloc: Global, waiters: &mut Waiters, at: u32) -> Result<bool, AllocError>
+        requires exists { at < length (entries self.old) }
+        requires known { AreKnown (searched self.old) (entries self.old) waiters.old.list.items }
+        ensures same { entries self.new ≡ entries self.old }
+        ensures program { searched self.new ≡ searched self.old }
+        ensures known { OnOk result (AreKnown (searched self.old) (entries self.old) waiters.new.list.items) }
+    {
+        let next = self.kept.next_name(at as usize);
+        let mut plain = self.kept.configuration(at as usize)?;
+        let mut labels = Vec::new(alloc);
+        plain.labels(next, &mut labels)?;
+        self.note_by_all(alloc, &mut plain, waiters, at, next, &labels)
+    }
+
+    /// Visits the entries, the last first, and notes their waiters that can go on. Whether one was noted. An error means
+    /// out of memory.
+    fn note_each(&mut self, alloc: Global, waiters: &mut Waiters) -> Result<bool, AllocError>
+        requires { AreKnown (searched self.old) (entries self.old) waiters.old.list.items }
+        ensures same { entries self.new ≡ entries self.old }
+        ensures program { searched self.new ≡ searched self.old }
+        ensures known { OnOk result (AreKnown (searched self.old) (entries self.old) waiters.new.list.items) }
+    {
+        let mut noted = false;
+        for at in (0..self.count(u32::MAX)).rev() {
+            if waiters.any_open(at) {
+                match self.note_at(alloc, waiters, at) {
+                    Ok(true) => noted = true,
+                    Ok(false) => {}
+                    Err(_) => return Err(AllocError),
+                }
+            }
+        }
+        Ok(noted)
+    }
+
+    /// Visits the entries again and again, until no waiter is noted, and at most 2^32 - 1 times. An error means out of
+    /// memory.
+    pub fn note_all(&mut self, alloc: Global, waiters: &mut Waiters) -> Result<(), AllocError>
+        requires { AreKnown (searched self.old) (entries self.old) waiters.old.list.items }
+        ensures same { entries self.new ≡ entries self.old }
+        ensures program { searched self.new ≡ searched self.old }
+        ensures known { OnOk result (AreKnown (searched self.old) (entries self.old) waiters.new.list.items) }
+    {
+        for _pass in 0..u32::MAX {
+            match self.note_each(alloc, waiters) {
+                Ok(true) => {}
+                Ok(false) => return Ok(()),
+                Err(_) => return Err(AllocError),
+            }
+        }
+        Ok(())
+    }
+}
