@@ -1,21 +1,24 @@
 -- What the visit of one entry adds to the progress of a search.
-use Rattle.std.proofs.Common.{◌≡◌, ◌≤◌, ◌<◌, refl, sym, ap, ◌∙◌, subst, ℕ, zero, suc, List, [], ◌∷◌, ◌++◌, length, Option, Some, None, arith, length-append}
+use Rattle.std.proofs.Common.{◌≡◌, ◌≤◌, ◌<◌, inl, inr, refl, sym, ap, ◌∙◌, subst, cond, ℕ, zero, suc, List, [], ◌∷◌, ◌++◌, length, Option, Some, None, Bool, true, false, arith, length-append}
 use Rattle.std.specs.Prelude.{IfSome}
-use Rattle.std.specs.List.{slice_get}
+use Rattle.std.specs.List.{filter, slice_get}
 use Rattle.std.proofs.lemmas.Option.{slice_get_within}
 use Rattle.run_types.specs.declared.types.Item.{Item}
 use Rattle.run_types.specs.declared.types.Label.{Label}
 use Rattle.run_types.proofs.Laws.{same_some}
 use Rattle.pool_syntax.specs.Terms.{ProgramTree}
 use Rattle.pool_relation.specs.Configuration.{Configuration}
-use Rattle.reachability.specs.Search.{IsInOrder}
+use Rattle.pool_relation.specs.Transition.{transition, start}
+use Rattle.reachability.specs.Search.{IsInOrder, after}
 use Rattle.reachability.specs.Labels.{labels_to_try}
 use Rattle.search_laws.specs.Outcomes.{Passed}
-use Rattle.search_laws.specs.Tried.{Course, AllLeadInto}
+use Rattle.search_laws.specs.Stubborn.{IsAwaited, is_served}
+use Rattle.search_laws.specs.Tried.{Course, AllLeadInto, Follows, IsExpanded, IsLabelTried, LeadsAt, LeadsInto, Every, Those}
 use Rattle.pool_search.specs.Entries.{IsEntryAt}
 use Rattle.pool_search.specs.VisitedConfigurations.{entry}
-use Rattle.pool_search.specs.Progress.{Entries, Grows, HasTried, HasSearched, IsReachedWith}
-use Rattle.pool_search.proofs.ListGrowth.{each_more, labels_grown, labels_more}
+use Rattle.pool_search.specs.Progress.{Entries, Grows, HasSearched, IsReachedWith, IsSearchedTo}
+use Rattle.pool_search.specs.Trials.{is_asked, OneLeadsOn, SettlesAt}
+use Rattle.pool_search.proofs.ListGrowth.{each_more, entry_grown, in_at, labels_grown, led_grown}
 use Rattle.pool_search.proofs.SearchComplete.{searched_grows, searched_next}
 
 -- an entry from its parts
@@ -31,11 +34,6 @@ entry_is es at n c inside name is = by (slice_get es at) refl name is
         none (e ∷ es) zero inside i = cc
         none (e ∷ es) (suc at) inside i = none es at (omega arith) i
     by (Some e) i h k = (e.items, i ∙ ap (λ (m : ℕ). Some (entry m e.items e.configuration)) (sym h) ∙ ap (λ (d : Configuration). Some (entry n e.items d)) (sym k))
-
-pub entry_grown : (es fs : Entries) (at : ℕ) (e : Passed) → slice_get es at ≡ Some e → slice_get (es ++ fs) at ≡ Some e
-entry_grown [] fs at e g = absurd (let z : None ≡ Some e = g in cc)
-entry_grown (x ∷ es) fs zero e g = g
-entry_grown (x ∷ es) fs (suc at) e g = entry_grown es fs at e g
 
 -- the entry is still there after the list has grown
 pub still_there : (es fs : Entries) (at n : ℕ) (c d : Configuration) (added : Entries) → fs ≡ es ++ added → d ≡ c → IsEntryAt es at n c → IsEntryAt fs at n d
@@ -62,16 +60,97 @@ module _ (p : ProgramTree) (k : Course) where
         within = λ h. omega (arith, length-append es (entry n w c ∷ []));
       }
 
-  -- one more label of an entry was tried
-  pub one_more_tried : (most : ℕ) (es fs : Entries) (e : Passed) (ls : List Label) (l : Label) → HasTried p k most es fs e l
-      → AllLeadInto p k es e.next e.items e.configuration ls → AllLeadInto p k fs e.next e.items e.configuration (ls ++ l ∷ [])
-  one_more_tried most es fs e ls l t h =
-      labels_more p k fs e.next e.items e.configuration ls l
-      (subst (λ (xs : Entries). AllLeadInto p k xs e.next e.items e.configuration ls) (sym t.grows.is) (labels_grown p k es t.grows.added e.next e.items e.configuration ls h)) t.tried
+  -- the labels of an entry that were tried lead into the list after it has grown
+  pub tried_still : (most : ℕ) (es fs : Entries) (e : Passed) (ls : List Label) → Grows p k most es fs → AllLeadInto p k es e.next e.items e.configuration ls
+      → AllLeadInto p k fs e.next e.items e.configuration ls
+  tried_still most es fs e ls grows h =
+      subst (λ (xs : Entries). AllLeadInto p k xs e.next e.items e.configuration ls) (sym grows.is) (labels_grown p k es grows.added e.next e.items e.configuration ls h)
+
+  -- one more label of an entry was looked at, and tried if it is asked for
+  pub one_more_asked : (es : Entries) (e : Passed) (asked : Label → Bool) (ls : List Label) (l : Label) → (asked l ≡ true → IsLabelTried p k es e.next e.items e.configuration l)
+      → AllLeadInto p k es e.next e.items e.configuration (filter asked ls) → AllLeadInto p k es e.next e.items e.configuration (filter asked (ls ++ l ∷ []))
+  one_more_asked es e asked [] l t h = by (asked l) t
+    where
+      by : (b : Bool) → (b ≡ true → IsLabelTried p k es e.next e.items e.configuration l) → AllLeadInto p k es e.next e.items e.configuration (cond b (l ∷ []) [])
+      by true t = (t refl, tt)
+      by false t = tt
+  one_more_asked es e asked (m ∷ ms) l t h = by (asked m) h (one_more_asked es e asked ms l t)
+    where
+      by : (b : Bool) → AllLeadInto p k es e.next e.items e.configuration (cond b (m ∷ filter asked ms) (filter asked ms))
+          → (AllLeadInto p k es e.next e.items e.configuration (filter asked ms) → AllLeadInto p k es e.next e.items e.configuration (filter asked (ms ++ l ∷ [])))
+          → AllLeadInto p k es e.next e.items e.configuration (cond b (m ∷ filter asked (ms ++ l ∷ [])) (filter asked (ms ++ l ∷ [])))
+      by true h rest = (h.0, rest h.1)
+      by false h rest = rest h
+
+  -- a label and what settles after it lead to an entry
+  pub led_at : (es : Entries) (n m : ℕ) (w v : List Item) (c d : Configuration) (l : Label) (place : ℕ) → transition p c l ≡ Some d → SettlesAt p k es m v d place → m ≡ after n l → v ≡ w ++ k.keeps l
+      → LeadsAt p k es n w c l place
+  led_at es n m w v c d l place step h named kept =
+      record {
+        next = d;
+        step = step;
+        to = h.to;
+        follows = h.follows;
+        there = h.there ∙ ap (λ (x : ℕ). Some (entry x v h.to)) named ∙ ap (λ (x : List Item). Some (entry (after n l) x h.to)) kept;
+      }
+
+  pub leads_by : (es : Entries) (n : ℕ) (w : List Item) (c : Configuration) (l : Label) (place : ℕ) → LeadsAt p k es n w c l place → LeadsInto p k es n w c l
+  leads_by es n w c l place h = record { next = h.next; step = h.step; to = h.to; follows = h.follows; is_in = in_at es place (entry (after n l) (w ++ k.keeps l) h.to) h.there }
+
+  -- an impossible label of an entry is tried
+  pub none_tried : (es fs : Entries) (at n : ℕ) (c : Configuration) (e : Passed) (l : Label) → IsEntryAt es at n c → slice_get es at ≡ Some e → transition p c l ≡ None
+      → IsLabelTried p k fs e.next e.items e.configuration l
+  none_tried es fs at n c e l there g none =
+      inl (subst (λ (d : Configuration). transition p d l ≡ None) (ap (λ (x : Passed). x.configuration) (sym (parts_of es at n c e g there))) none)
+
+  -- a label that leads on does so after the list has grown
+  pub still_leads_on : (most : ℕ) (es fs : Entries) (at : ℕ) (e : Passed) (served : Option ℕ) (place : ℕ) → Grows p k most es fs → OneLeadsOn p k es at e served place
+      → OneLeadsOn p k fs at e served place
+  still_leads_on most es fs at e served place grows h =
+      record {
+        later = h.later;
+        label = h.label;
+        asked = h.asked;
+        leads = subst (λ (xs : Entries). LeadsAt p k xs e.next e.items e.configuration h.label place) (sym grows.is)
+            (led_grown p k es grows.added e.next e.items e.configuration h.label place h.leads);
+      }
+
+  -- all labels were tried
+  pub by_all : (es : Entries) (at : ℕ) (e : Passed) → AllLeadInto p k es e.next e.items e.configuration (filter (is_asked None) (labels_to_try p e.next e.configuration))
+      → IsExpanded p k es at e.next e.items e.configuration
+  by_all es at e h = Every (subst (AllLeadInto p k es e.next e.items e.configuration) (all_of (labels_to_try p e.next e.configuration)) h)
+    where
+      all_of : (ls : List Label) → filter (is_asked None) ls ≡ ls
+      all_of [] = refl
+      all_of (l ∷ ls) = ap (λ ms. l ∷ ms) (all_of ls)
+
+  -- the labels of an awaited object were tried, and one of them leads on
+  pub by_those : (es : Entries) (at : ℕ) (e : Passed) (b place : ℕ)
+      → ((l : Label) (d : Configuration) → is_served b l ≡ true → transition p e.configuration l ≡ Some d → IsAwaited p e.next b e.configuration)
+      → AllLeadInto p k es e.next e.items e.configuration (filter (is_asked (Some b)) (labels_to_try p e.next e.configuration)) → OneLeadsOn p k es at e (Some b) place
+      → IsExpanded p k es at e.next e.items e.configuration
+  by_those es at e b place enough some on =
+      let h = enough on.label on.leads.next on.asked on.leads.step in
+      let awaited : IsAwaited p e.next b e.configuration = record h { one = on.label; to = on.leads.next; is_its = on.asked; possible = on.leads.step } in
+      Those b awaited some place on.later on.leads
+
+  -- the start was kept
+  pub begun_at : (most : ℕ) (es : Entries) (first : Configuration) (place : ℕ) → start p 0 ≡ Some first → SettlesAt p k es 1 [] first place → Grows p k most [] es
+      → IsSearchedTo p k (λ _. Unit {0}) es 0
+  begun_at most es first place starts h grows =
+      record {
+        begins = λ c s.
+            let is : first ≡ c = same_some (sym starts ∙ s) in
+            (h.to, subst (λ (x : Configuration). Follows p k x h.to) is h.follows, in_at es place (entry 1 [] h.to) h.there);
+        in_order = grows.in_order tt;
+        reached = grows.reached tt;
+        tried = tt;
+        visited = tt;
+      }
 
   -- one more entry was looked at
   pub has_searched : (most : ℕ) (P : Passed → Type 0) (es fs : Entries) (at : ℕ) (e : Passed) → slice_get es at ≡ Some e → P e → Grows p k most es fs
-      → AllLeadInto p k fs e.next e.items e.configuration (labels_to_try p e.next e.configuration) → HasSearched p k most P es fs at
+      → IsExpanded p k fs at e.next e.items e.configuration → HasSearched p k most P es fs at
   has_searched most P es fs at e there holds grows leads =
       record {
         grows = grows;

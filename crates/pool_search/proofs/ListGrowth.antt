@@ -1,6 +1,6 @@
 -- A list that grew at its end keeps its items.
-use Rattle.std.proofs.Common.{◌≡◌, inl, inr, refl, sym, ap, ◌∙◌, subst, ℕ, zero, suc, List, [], ◌∷◌, ◌++◌, Some, None, append_assoc}
-use Rattle.std.specs.List.{slice_get}
+use Rattle.std.proofs.Common.{◌≡◌, ◌+◌, inl, inr, refl, sym, ap, ◌∙◌, subst, ℕ, zero, suc, List, [], ◌∷◌, ◌++◌, length, Some, None, arith, append_assoc}
+use Rattle.std.specs.List.{filter, slice_get}
 use Rattle.std.proofs.lemmas.List.{append-nil}
 use Rattle.run_types.specs.declared.types.Item.{Item}
 use Rattle.run_types.specs.declared.types.Label.{Label}
@@ -10,8 +10,8 @@ use Rattle.pool_relation.specs.Configuration.{Configuration}
 use Rattle.reachability.specs.Search.{IsInOrder}
 use Rattle.reachability.specs.Labels.{labels_to_try}
 use Rattle.search_laws.specs.Outcomes.{Passed, IsPassed}
-use Rattle.search_laws.specs.Tried.{Course, LeadsInto, IsLabelTried, AllLeadInto, AreTried}
-use Rattle.pool_search.specs.VisitedConfigurations.{entry}
+use Rattle.search_laws.specs.Stubborn.{is_served}
+use Rattle.search_laws.specs.Tried.{Course, LeadsInto, IsLabelTried, AllLeadInto, LeadsAt, IsExpanded, Every, Those, AreTried}
 use Rattle.pool_search.specs.Progress.{Entries, Grows}
 
 pub in_grown : (n : ℕ) (w : List Item) (c : Configuration) (es fs : Entries) → IsPassed n w c es → IsPassed n w c (es ++ fs)
@@ -19,9 +19,18 @@ in_grown n w c [] fs i = absurd i
 in_grown n w c (e ∷ es) fs (inl i) = inl i
 in_grown n w c (e ∷ es) fs (inr i) = inr (in_grown n w c es fs i)
 
-pub in_last : (n : ℕ) (w : List Item) (c : Configuration) (es : Entries) → IsPassed n w c (es ++ entry n w c ∷ [])
-in_last n w c [] = inl (refl, refl, refl)
-in_last n w c (e ∷ es) = inr (in_last n w c es)
+pub entry_grown : (es fs : Entries) (at : ℕ) (e : Passed) → slice_get es at ≡ Some e → slice_get (es ++ fs) at ≡ Some e
+entry_grown [] fs at e g = absurd (let z : None ≡ Some e = g in cc)
+entry_grown (x ∷ es) fs zero e g = g
+entry_grown (x ∷ es) fs (suc at) e g = entry_grown es fs at e g
+
+-- the last entry of a list that grew by it
+pub entry_last : (es : Entries) (at : ℕ) (e : Passed) → at ≡ length es → slice_get (es ++ e ∷ []) at ≡ Some e
+entry_last es at e i = subst (λ (n : ℕ). slice_get (es ++ e ∷ []) n ≡ Some e) (sym i) (by es)
+  where
+    by : (xs : Entries) → slice_get (xs ++ e ∷ []) (length xs) ≡ Some e
+    by [] = refl
+    by (x ∷ xs) = by xs
 
 -- one more at the end
 pub each_more : {X : Type 0} (P : X → Type 0) (xs : List X) (x : X) → Each P xs → P x → Each P (xs ++ x ∷ [])
@@ -58,19 +67,25 @@ module _ (p : ProgramTree) (k : Course) where
   labels_grown es fs n w c [] h = tt
   labels_grown es fs n w c (l ∷ ls) h = (label_grown es fs n w c l h.0, labels_grown es fs n w c ls h.1)
 
-  pub tried_grown : (es fs rest : Entries) → AreTried p k es rest → AreTried p k (es ++ fs) rest
-  tried_grown es fs [] h = tt
-  tried_grown es fs (e ∷ rest) h = (h.0, labels_grown es fs e.next e.items e.configuration (labels_to_try p e.next e.configuration) h.1, tried_grown es fs rest h.2)
+  pub led_grown : (es fs : Entries) (n : ℕ) (w : List Item) (c : Configuration) (l : Label) (place : ℕ) → LeadsAt p k es n w c l place → LeadsAt p k (es ++ fs) n w c l place
+  led_grown es fs n w c l place h = record { next = h.next; step = h.step; to = h.to; follows = h.follows; there = entry_grown es fs place _ h.there }
 
-  pub labels_more : (es : Entries) (n : ℕ) (w : List Item) (c : Configuration) (ls : List Label) (l : Label) → AllLeadInto p k es n w c ls → IsLabelTried p k es n w c l
-      → AllLeadInto p k es n w c (ls ++ l ∷ [])
-  labels_more es n w c [] l h t = (t, tt)
-  labels_more es n w c (m ∷ ms) l h t = (h.0, labels_more es n w c ms l h.1 t)
+  pub expanded_grown : (es fs : Entries) (i n : ℕ) (w : List Item) (c : Configuration) → IsExpanded p k es i n w c → IsExpanded p k (es ++ fs) i n w c
+  expanded_grown es fs i n w c (Every all) = Every (labels_grown es fs n w c (labels_to_try p n c) all)
+  expanded_grown es fs i n w c (Those b awaited some place later led) =
+      Those b awaited (labels_grown es fs n w c (filter (is_served b) (labels_to_try p n c)) some) place later (led_grown es fs n w c awaited.one place led)
 
-  pub tried_more : (es before : Entries) (e : Passed) → AreTried p k es before → IsInOrder e.configuration
-      → AllLeadInto p k es e.next e.items e.configuration (labels_to_try p e.next e.configuration) → AreTried p k es (before ++ e ∷ [])
-  tried_more es [] e h o t = (o, t, tt)
-  tried_more es (f ∷ fs) e h o t = (h.0, h.1, tried_more es fs e h.2 o t)
+  pub tried_grown : (es fs : Entries) (i : ℕ) (rest : Entries) → AreTried p k es i rest → AreTried p k (es ++ fs) i rest
+  tried_grown es fs i [] h = tt
+  tried_grown es fs i (e ∷ rest) h = (h.0, expanded_grown es fs i e.next e.items e.configuration h.1, tried_grown es fs (suc i) rest h.2)
+
+  -- one more entry was expanded
+  pub tried_more : (es : Entries) (i : ℕ) (before : Entries) (e : Passed) → AreTried p k es i before → IsInOrder e.configuration
+      → IsExpanded p k es (i + length before) e.next e.items e.configuration → AreTried p k es i (before ++ e ∷ [])
+  tried_more es i [] e h o t = (o, subst (λ (m : ℕ). IsExpanded p k es m e.next e.items e.configuration) (omega arith) t, tt)
+  tried_more es i (f ∷ fs) e h o t =
+      let at : i + length (f ∷ fs) ≡ suc i + length fs = omega arith in
+      (h.0, h.1, tried_more es (suc i) fs e h.2 o (subst (λ (m : ℕ). IsExpanded p k es m e.next e.items e.configuration) at t))
 
   -- a list grows by nothing, and by what it grew by before and after
   pub as_it_is : (most : ℕ) (es : Entries) → Grows p k most es es

@@ -11,9 +11,9 @@ use Rattle.reachability.specs.Search.{IsAtEnd}
 use Rattle.reachability.specs.Renaming.{Renaming, renamed_item}
 use Rattle.reachability.specs.Outcomes.{written, EndsWith, IsOneOf, name_none, all_name_none}
 use Rattle.search_laws.specs.Renamed.{IsNameless}
-use Rattle.search_laws.specs.Outcomes.{Passed, IsPassed, IsWholeWith, IsKeptEnd, EndsAlike}
+use Rattle.search_laws.specs.Outcomes.{Passed, IsPassed, IsWholeWithChoices, IsKeptEnd, EndsAlike}
 use Rattle.search_laws.specs.Tried.{with_writes}
-use Rattle.search_laws.proofs.Laws.{every_end_is_kept, ends_alike, at_end_kept, items_are}
+use Rattle.search_laws.proofs.Laws.{every_end_is_kept_by_choices, ends_alike, at_end_kept, items_are}
 use Rattle.pool_search.specs.declared.outcomes.EndKind.{EndKind}
 use Rattle.pool_search.specs.declared.outcomes.EndKind.TheVariants as K
 use Rattle.pool_search.specs.declared.outcomes.Outcome.{Outcome}
@@ -58,12 +58,12 @@ each_in P (e ∷ es) n w c h (inr i) = each_in P es n w c h.1 i
 pub no_outcome_is_missing : (p : ProgramTree) (os : List Outcome) (es : Entries) (at : ℕ) → IsNameless p → length es ≤ at → IsSearchedTo p with_writes (IsNoted p os) es at → HasAllOutcomes p os
 no_outcome_is_missing p os es at less all s = record { under_names = under; exactly = exact }
   where
-    whole : IsWholeWith p None es
-    whole = whole_by_visits p (IsNoted p os) es at all s
+    whole : IsWholeWithChoices p es
+    whole = whole_by_visits p (IsNoted p os) es at less all s
 
     under : (w : List Item) (d : Configuration) → EndsWith p w d → (f : Renaming) × HasOutcome p os (map (renamed_item f.to) w) d
     under w d e =
-        let k = every_end_is_kept p None es w d less whole e in
+        let k = every_end_is_kept_by_choices p es w d less whole e in
         let ended : IsAtEnd p k.seen = at_end_kept k.names p d k.seen less k.same e.at_end in
         let noted = each_in (IsNoted p os) es k.next (map (renamed_item k.names.to) w) k.seen (visited_all p with_writes (IsNoted p os) es at all s) k.is_in ended in
         (k.names, has_before p os (map (renamed_item k.names.to) w) d k.seen (ends_alike k.names p d k.seen less k.same e.at_end) noted)

@@ -1,9 +1,10 @@
 -- What is noted of waiters stays true, and a waiter that the labels of its entries leave as it is, is dead.
-use Rattle.std.proofs.Common.{◌≡◌, ◌⊎◌, inl, inr, refl, sym, ap, ◌∙◌, subst, ℕ, zero, suc, List, [], ◌∷◌, ◌++◌, map, Option, Some, None, Bool, true, false, not, ◌&&◌, ◌||◌, ◌==◌, ◌<◌, ◌≤◌, ◌+◌, length, set, get_or, drop, arith}
+use Rattle.std.proofs.Common.{◌≡◌, ◌⊎◌, inl, inr, refl, sym, ap, ◌∙◌, subst, cond, ℕ, zero, suc, List, [], ◌∷◌, ◌++◌, map, Option, Some, None, Bool, true, false, not, ◌&&◌, ◌||◌, ◌==◌, ◌<◌, ◌≤◌, ◌+◌, length, set, get_or, drop, arith}
 use Rattle.std.specs.Prelude.{IfSome}
-use Rattle.std.specs.List.{slice_get}
+use Rattle.std.specs.List.{filter, slice_get}
 use Rattle.std.proofs.lemmas.List.{drop_more}
 use Rattle.std.proofs.lemmas.Option.{slice_get_within}
+use Rattle.run_types.specs.declared.types.Item.{Item}
 use Rattle.run_types.specs.declared.types.Label.{Label}
 use Rattle.run_types.specs.Tables.{Each}
 use Rattle.run_types.proofs.Laws.{equals, equal, first, second, neither, given_by, same_some}
@@ -17,14 +18,18 @@ use Rattle.search_laws.specs.Renamed.{IsNameless}
 use Rattle.search_laws.specs.Outcomes.{Passed}
 use Rattle.search_laws.specs.Tried.{states_only, state_of}
 use Rattle.search_laws.specs.Dead.{changes, some_changes, IsDead, CanGoOn}
-use Rattle.search_laws.specs.ClosedBeside.{beside, SettlesBeside, AtRest, GoesFreely, IsClosedBeside, IsReachedInOrder}
-use Rattle.search_laws.proofs.Laws.{all_labels, unchanged_by, dead_by_list, known_reached}
+use Rattle.search_laws.specs.ClosedBeside.{beside, SettlesBeside, AtRest, GoesFreely, IsReachedInOrder}
+use Rattle.search_laws.specs.PutOff.{IsClosedByChoices}
+use Rattle.search_laws.specs.TriedAt.{IsTriedAt, AllThere, SomeThere}
+use Rattle.search_laws.specs.Stubborn.{IsAwaited, is_served}
+use Rattle.search_laws.proofs.Laws.{all_labels, among_those, dead_by_choices, in_the_end_by_places, known_reached, served_keeps_names, unchanged_by, who_is_awaited_is_enough}
 use Rattle.pool_search.specs.Courses.{all_followed}
 use Rattle.pool_search.specs.Progress.{Entries, AllInOrder}
 use Rattle.pool_search.specs.VisitedConfigurations.{entry}
 use Rattle.pool_search.specs.Entries.{IsEntryAt}
 use Rattle.pool_search.specs.WaiterLists.{HasWaiter, IsOpen, noted, GoesOnBy, IsServed, IsKnown, AreKnown}
-use Rattle.pool_search.specs.Leads.{IsEdge, LeadsBeside, IsBeside, StaysIn, StaysAt}
+use Rattle.pool_search.specs.Leads.{IsEdge, LeadsBeside, IsBeside, OneStaysOn, StaysIn, ByAll, ByThose, StaysAt}
+use Rattle.pool_search.specs.Trials.{is_asked}
 use Rattle.pool_search.specs.declared.waiters.Waiter.{Waiter}
 use Rattle.pool_search.proofs.ListGrowth.{each_at, each_weaker}
 
@@ -214,6 +219,16 @@ one_more_stays p q es fs ws items o i d programs lists inside here so_far rest =
     (subst (Each (StaysAt p es ws o)) (sym (drop_more items i d inside))
     (subst (λ (t : ProgramTree). StaysAt t es ws o (get_or items i d)) programs (subst (λ (gs : Entries). StaysAt q gs ws o (get_or items i d)) lists here), rest))
 
+-- one more label of a list that is looked through, if it is asked for
+pub one_more_beside : (P : Label → Type 0) (asked : Label → Bool) (labels : List Label) (i : ℕ) (d : Label) → i < length labels → (asked (get_or labels i d) ≡ true → P (get_or labels i d))
+    → (Each P (filter asked (drop i labels)) → Each P (filter asked labels)) → Each P (filter asked (drop (i + 1) labels)) → Each P (filter asked labels)
+one_more_beside P asked labels i d inside here so_far rest =
+    so_far (subst (λ (ls : List Label). Each P (filter asked ls)) (sym (drop_more labels i d inside)) (by (asked (get_or labels i d)) here))
+  where
+    by : (b : Bool) → (b ≡ true → P (get_or labels i d)) → Each P (cond b (get_or labels i d ∷ filter asked (drop (i + 1) labels)) (filter asked (drop (i + 1) labels)))
+    by true h = (h refl, rest)
+    by false h = rest
+
 -- entries in which an object waits and is not known to go on
 
 abbrev pick : Bool → Option Passed → List (ℕ × Configuration)
@@ -261,35 +276,65 @@ in_open o at es (w ∷ ws) e (inl k) g =
     unnoted = ap (λ (b : Bool). (w.object == o) && not b) k.0 ∙ ap (λ (q : ℕ). (q == o) && true) k.2 ∙ ap (λ (b : Bool). b && true) (equals o)
 in_open o at es (w ∷ ws) e (inr k) g = in_right e.next e.configuration (pick (is_open o w) (slice_get es w.entry)) (open_states o es ws) (in_open o at es ws e k g)
 
+-- an entry in which an object waits and is not known to go on
+abbrev IsOpenAt : Entries → List Waiter → ℕ → ℕ → ℕ → Configuration → Type 0
+IsOpenAt es ws o at n c = HasWaiter false at o ws × IsEntryAt es at n c
+
+open_more : (es : Entries) (ws : List Waiter) (w : Waiter) (o n : ℕ) (c : Configuration) → (at : ℕ) × IsOpenAt es ws o at n c → (at : ℕ) × IsOpenAt es (w ∷ ws) o at n c
+open_more es ws w o n c r = (r.0, (inr r.1.0, r.1.1))
+
+-- the place of such an entry
+open_at : (es : Entries) (ws : List Waiter) (o n : ℕ) (c : Configuration) → IsIn n c (open_states o es ws) → (at : ℕ) × IsOpenAt es ws o at n c
+open_at es [] o n c i = absurd i
+open_at es (w ∷ ws) o n c i = by (in_joined n c (pick (is_open o w) (slice_get es w.entry)) (open_states o es ws) i) (λ j. open_more es ws w o n c (open_at es ws o n c j))
+  where
+    off : (b : Bool) → not b ≡ true → b ≡ false
+    off true z = absurd (let y : false ≡ true = z in cc)
+    off false z = refl
+
+    here : (b : Bool) (r : Option Passed) → is_open o w ≡ b → slice_get es w.entry ≡ r → IsIn n c (pick b r) → (at : ℕ) × IsOpenAt es (w ∷ ws) o at n c
+    here false r j k i = absurd i
+    here true None j k i = absurd i
+    here true (Some e) j k (inr i) = absurd i
+    here true (Some e) j k (inl i) =
+        let closed : w.goes_on ≡ false = off w.goes_on (second (w.object == o) (not w.goes_on) j) in
+        let is : e ≡ entry n e.items c = ap (λ (m : ℕ). entry m e.items e.configuration) i.0 ∙ ap (λ (d : Configuration). entry n e.items d) i.1 in
+        (w.entry, (inl (closed, refl, equal w.object o (first (w.object == o) (not w.goes_on) j)), (e.items, k ∙ ap Some is)))
+
+    by : IsIn n c (pick (is_open o w) (slice_get es w.entry)) ⊎ IsIn n c (open_states o es ws) → (IsIn n c (open_states o es ws) → (at : ℕ) × IsOpenAt es (w ∷ ws) o at n c)
+        → (at : ℕ) × IsOpenAt es (w ∷ ws) o at n c
+    by (inl j) rest = here (is_open o w) (slice_get es w.entry) refl refl j
+    by (inr j) rest = rest j
+
 module _ (p : ProgramTree) (es : Entries) (all : List Waiter) (o : ℕ) where
-  -- an entry of this configuration in which the object stays as it is
-  record Found (n : ℕ) (c : Configuration) : Type 0 where
-    at : ℕ
-    e : Passed
-    there : slice_get es at ≡ Some e
-    next : e.next ≡ n
-    is : e.configuration ≡ c
-    stays : StaysIn p es all o e
+  -- the labels of such an entry leave the object as it is
+  stays_of : (ws : List Waiter) (at : ℕ) (e : Passed) → Each (StaysAt p es all o) ws → HasWaiter false at o ws → slice_get es at ≡ Some e → StaysIn p es all o at e
+  stays_of [] at e h k g = absurd k
+  stays_of (w ∷ ws) at e h (inl k) g = subst (λ (i : ℕ). StaysIn p es all o i e) k.1 (h.0 k.2 k.0 e (ap (slice_get es) k.1 ∙ g))
+  stays_of (w ∷ ws) at e h (inr k) g = stays_of ws at e h.1 k g
 
-  found_in : (ws : List Waiter) (n : ℕ) (c : Configuration) → Each (StaysAt p es all o) ws → IsIn n c (open_states o es ws) → Found n c
-  found_in [] n c h i = absurd i
-  found_in (w ∷ ws) n c h i = by (in_joined n c (pick (is_open o w) (slice_get es w.entry)) (open_states o es ws) i) (λ j. found_in ws n c h.1 j)
+  -- all labels of an entry leave the object as it is
+  pub stays_by_all : (at n : ℕ) (c : Configuration) (e : Passed) → IsEntryAt es at n c → slice_get es at ≡ Some e → Each (IsBeside p es all o n c) (filter (is_asked None) (labels_to_try p n c))
+      → StaysIn p es all o at e
+  stays_by_all at n c e there g stays =
+      let is : entry n there.0 c ≡ e = same_some (sym there.1 ∙ g) in
+      subst (StaysIn p es all o at) is (ByAll (subst (Each (IsBeside p es all o n c)) (all_of (labels_to_try p n c)) stays))
     where
-      here : (b : Bool) (r : Option Passed) → is_open o w ≡ b → slice_get es w.entry ≡ r → IsIn n c (pick b r) → Found n c
-      here false r j k i = absurd i
-      here true None j k i = absurd i
-      here true (Some e) j k (inr i) = absurd i
-      here true (Some e) j k (inl i) =
-          let closed : w.goes_on ≡ false = off w.goes_on (second (w.object == o) (not w.goes_on) j) in
-          record { at = w.entry; e = e; there = k; next = i.0; is = i.1; stays = h.0 (equal w.object o (first (w.object == o) (not w.goes_on) j)) closed e k }
-        where
-          off : (b : Bool) → not b ≡ true → b ≡ false
-          off true z = absurd (let y : false ≡ true = z in cc)
-          off false z = refl
+      all_of : (ls : List Label) → filter (is_asked None) ls ≡ ls
+      all_of [] = refl
+      all_of (l ∷ ls) = ap (λ ms. l ∷ ms) (all_of ls)
 
-      by : IsIn n c (pick (is_open o w) (slice_get es w.entry)) ⊎ IsIn n c (open_states o es ws) → (IsIn n c (open_states o es ws) → Found n c) → Found n c
-      by (inl j) rest = here (is_open o w) (slice_get es w.entry) refl refl j
-      by (inr j) rest = rest j
+  -- the labels of an awaited object do, and one of them leads to a later entry
+  pub stays_by_those : (at n : ℕ) (c : Configuration) (e : Passed) (b place : ℕ) → IsEntryAt es at n c → slice_get es at ≡ Some e
+      → ((l : Label) (d : Configuration) → is_served b l ≡ true → transition p c l ≡ Some d → IsAwaited p n b c)
+      → Each (IsBeside p es all o n c) (filter (is_asked (Some b)) (labels_to_try p n c)) → OneStaysOn p es all o at n c (Some b) place → StaysIn p es all o at e
+  stays_by_those at n c e b place there g enough stays on =
+      let is : entry n there.0 c ≡ e = same_some (sym there.1 ∙ g) in
+      let whole : run p c (on.label ∷ on.leads.edge.settled) ≡ Some on.leads.edge.last = ap (run p c) (sym on.leads.edge.is) ∙ on.leads.edge.leads in
+      let s = given_by (transition p c on.label) (λ (x : Configuration). run p x on.leads.edge.settled) on.leads.edge.last whole in
+      let h = enough on.label s.0 on.asked s.1 in
+      let awaited : IsAwaited p n b c = record h { one = on.label; to = s.0; is_its = on.asked; possible = s.1 } in
+      subst (StaysIn p es all o at) is (ByThose b awaited stays on.leads (subst (λ (i : ℕ). at < i) (sym on.to) on.later))
 
   leads_beside : (n : ℕ) (c d : Configuration) (l : Label) (ls : List Label) → Each (IsBeside p es all o n c) ls → IsAmong l ls → transition p c l ≡ Some d → LeadsBeside p es all o n c l
   leads_beside n c d l [] h i t = absurd i
@@ -327,24 +372,42 @@ module _ (p : ProgramTree) (es : Entries) (all : List Waiter) (o : ℕ) where
         is_in = in_open o r.to es all (entry (after n l) r.edge.items r.edge.last) r.waits r.edge.there;
       }
 
-  closed_beside : AllInOrder es → Each (StaysAt p es all o) all → IsClosedBeside p o (open_states o es all)
-  closed_beside sorted stays = record {
-    in_order = λ n c i. let f = found_in all n c stays i in subst IsInOrder f.is (each_at (λ (e : Passed). IsInOrder e.configuration) es f.at f.e sorted f.there);
-    beside = λ n c d l i named t. (by n c d l i named t).still;
-    closed = λ n c d l i named t. let g = by n c d l i named t in (g.to, g.settled, g.is_in);
+  freely : (n : ℕ) (c d : Configuration) (l : Label) → transition p c l ≡ Some d → LeadsBeside p es all o n c l
+      → (beside o l ≡ true) × ((e : Configuration) × SettlesBeside p o d e × IsIn (after n l) e (open_states o es all))
+  freely n c d l t h = let g = goes n c d l t h in (ap not g.still, (g.to, g.settled, g.is_in))
+
+  tried_open : IsNameless p → (at n : ℕ) (c : Configuration) (w : List Item) → StaysIn p es all o at (entry n w c) → IsTriedAt p (beside o) (open_states o es all) (IsOpenAt es all o) at n c
+  unfolding goes
+  tried_open less at n c w (ByAll stays) = AllThere (λ l d named t. freely n c d l t (leads_beside n c d l (labels_to_try p n c) stays (all_labels p c d n l named t) t))
+  tried_open less at n c w (ByThose b awaited stays leads later) =
+      let enough = who_is_awaited_is_enough p n b c less awaited in
+      let g = goes n c awaited.to awaited.one awaited.possible leads in
+      let step : transition p c enough.0.one ≡ Some awaited.to = ap (transition p c) enough.1 ∙ awaited.possible in
+      let there : slice_get es leads.to ≡ Some (entry n leads.edge.items leads.edge.last) =
+      leads.edge.there ∙ ap (λ (m : ℕ). Some (entry m leads.edge.items leads.edge.last)) (served_keeps_names b n awaited.one awaited.is_its)
+      in
+      SomeThere (is_served b) enough.0
+      (λ l its d named t.
+      freely n c d l t (leads_beside n c d l (filter (is_served b) (labels_to_try p n c)) stays (among_those (is_served b) l (labels_to_try p n c) its (all_labels p c d n l named t)) t))
+      awaited.to leads.edge.last step g.settled leads.to later (leads.waits, (leads.edge.items, there))
+
+  closed_beside : IsNameless p → AllInOrder es → Each (StaysAt p es all o) all → IsClosedByChoices p (beside o) (open_states o es all)
+  closed_beside less sorted stays = record {
+    in_order = λ n c i. let r = open_at es all o n c i in each_at (λ (e : Passed). IsInOrder e.configuration) es r.0 (entry n r.1.1.0 c) sorted r.1.1.1;
+    in_the_end = λ n c i. let r = open_at es all o n c i in in_the_end_by_places p (beside o) (open_states o es all) (IsOpenAt es all o) (length es) within inside tried r.0 n c r.1;
   }
     where
-      by : (n : ℕ) (c d : Configuration) (l : Label) → IsIn n c (open_states o es all) → names_next n l ≡ true → transition p c l ≡ Some d → Goes n d l
-      by n c d l i named t =
-          let f = found_in all n c stays i in
-          let beside : Each (IsBeside p es all o n c) (labels_to_try p n c) =
-          subst (λ (m : ℕ). Each (IsBeside p es all o m c) (labels_to_try p m c)) f.next
-          (subst (λ (x : Configuration). Each (IsBeside p es all o f.e.next x) (labels_to_try p f.e.next x)) f.is f.stays)
-          in
-          goes n c d l t (leads_beside n c d l (labels_to_try p n c) beside (all_labels p c d n l named t) t)
+      within : (at n : ℕ) (c : Configuration) → IsOpenAt es all o at n c → at ≤ length es
+      within at n c h = let k = slice_get_within es at (entry n h.1.0 c) h.1.1 in omega arith
+
+      inside : (at n : ℕ) (c : Configuration) → IsOpenAt es all o at n c → IsIn n c (open_states o es all)
+      inside at n c h = in_open o at es all (entry n h.1.0 c) h.0 h.1.1
+
+      tried : (at n : ℕ) (c : Configuration) → IsOpenAt es all o at n c → IsTriedAt p (beside o) (open_states o es all) (IsOpenAt es all o) at n c
+      tried at n c h = tried_open less at n c h.1.0 (stays_of all at (entry n h.1.0 c) stays h.0 h.1.1)
 
   -- an object that waits and that the labels of its entries leave as it is, is dead
   pub dead_by_waiters : IsNameless p → AllInOrder es → Each (StaysAt p es all o) all → (at : ℕ) (e : Passed) → HasWaiter false at o all → slice_get es at ≡ Some e
       → IsReachedInOrder p e.next e.configuration → WaitsAt p e.configuration o → IsDead p e.configuration o
   dead_by_waiters less sorted stays at e has there reached waits =
-      dead_by_list p less o e.next (open_states o es all) e.configuration (closed_beside sorted stays) (in_open o at es all e has there) (known_reached p less e.next e.configuration reached) waits
+      dead_by_choices p o less e.next (open_states o es all) e.configuration (closed_beside less sorted stays) (in_open o at es all e has there) (known_reached p less e.next e.configuration reached) waits

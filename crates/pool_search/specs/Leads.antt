@@ -1,5 +1,6 @@
 -- Where the labels of an entry lead, and entries that no label leaves and in which no label changes an object.
-use Rattle.std.specs.Prelude.{◌≡◌, ◌⊎◌, ℕ, List, ◌∷◌, Some, None, true, false, slice_get}
+use Rattle.std.specs.Prelude.{◌≡◌, ◌⊎◌, ◌<◌, ℕ, List, ◌∷◌, Option, Some, None, true, false, slice_get}
+use Rattle.std.specs.List.{filter}
 use Rattle.run_types.specs.declared.types.Item.{Item}
 use Rattle.run_types.specs.declared.types.Label.{Label}
 use Rattle.run_types.specs.Tables.{Each}
@@ -9,10 +10,12 @@ use Rattle.pool_relation.specs.Transition.{transition, run}
 use Rattle.reachability.specs.Search.{after}
 use Rattle.reachability.specs.Labels.{labels_to_try}
 use Rattle.search_laws.specs.Outcomes.{Passed}
+use Rattle.search_laws.specs.Stubborn.{IsAwaited, is_served}
 use Rattle.search_laws.specs.Tried.{states_only}
 use Rattle.search_laws.specs.Dead.{some_changes}
 use Rattle.pool_search.specs.Courses.{all_followed}
 use Rattle.pool_search.specs.Progress.{Entries}
+use Rattle.pool_search.specs.Trials.{is_asked}
 use Rattle.pool_search.specs.VisitedConfigurations.{entry}
 use Rattle.pool_search.specs.WaiterLists.{HasWaiter}
 use Rattle.pool_search.specs.declared.waiters.Waiter.{Waiter}
@@ -40,10 +43,21 @@ module _ (p : ProgramTree) (es : Entries) (ws : List Waiter) (o : ℕ) where
   abbrev pub IsBeside : ℕ → Configuration → Label → Type 0
   IsBeside n c l = (transition p c l ≡ None) ⊎ LeadsBeside n c l
 
-  -- so is each label of the entry
-  abbrev pub StaysIn : Passed → Type 0
-  StaysIn e = Each (IsBeside e.next e.configuration) (labels_to_try p e.next e.configuration)
+  -- a label that is asked for leads so from the entry at the place `at` to the later entry at this place
+  pub record OneStaysOn (at n : ℕ) (c : Configuration) (served : Option ℕ) (place : ℕ) : Type 0 where
+    pub later : at < place
+    pub label : Label
+    pub asked : is_asked served label ≡ true
+    pub leads : LeadsBeside n c label
+    pub to : leads.to ≡ place
 
-  -- so is each label of the entry of the waiter, if the waiter is the object and not known to go on
+  -- Each label of the entry at the place `at` is impossible or leads so. Or each of those of an awaited object is, and one
+  -- of them leads to a later entry.
+  pub data StaysIn (at : ℕ) (e : Passed) : Type 0 where
+    ByAll : Each (IsBeside e.next e.configuration) (labels_to_try p e.next e.configuration) → StaysIn at e
+    ByThose : (b : ℕ) (awaited : IsAwaited p e.next b e.configuration) → Each (IsBeside e.next e.configuration) (filter (is_served b) (labels_to_try p e.next e.configuration))
+        → (leads : LeadsBeside e.next e.configuration awaited.one) → at < leads.to → StaysIn at e
+
+  -- the same of the entry of the waiter, if the waiter is the object and not known to go on
   abbrev pub StaysAt : Waiter → Type 0
-  StaysAt w = w.object ≡ o → w.goes_on ≡ false → (e : Passed) → slice_get es w.entry ≡ Some e → StaysIn e
+  StaysAt w = w.object ≡ o → w.goes_on ≡ false → (e : Passed) → slice_get es w.entry ≡ Some e → StaysIn w.entry e

@@ -10,6 +10,7 @@ pub mod VisitedConfigurations
 pub mod SearchAnswers
 pub mod Progress
 pub mod Entries
+pub mod Trials
 pub mod FoundOutcomes
 pub mod WaiterLists
 pub mod Leads

@@ -8,7 +8,7 @@ use Rattle.pool_relation.specs.Configuration.{Configuration}
 use Rattle.pool_relation.specs.Transition.{run, start}
 use Rattle.reachability.specs.Search.{IsInOrder}
 use Rattle.search_laws.specs.Outcomes.{Passed}
-use Rattle.search_laws.specs.Tried.{Course, AreTried, Begins, IsLabelTried}
+use Rattle.search_laws.specs.Tried.{Course, AreTried, Begins}
 
 -- configurations, each with its next free name and what was written before it
 abbrev pub Entries : Type 0
@@ -43,19 +43,14 @@ module _ (p : ProgramTree) (k : Course) where
     pub reached : AllReached old → AllReached new
     pub within : length old ≤ most → length new ≤ most
 
-  -- the start settles into the list; all labels of the entries before
-  -- `at` were tried; each of these entries has the property P
+  -- the start settles into the list; the entries before `at` were
+  -- expanded; each of these entries has the property P
   pub record IsSearchedTo (P : Passed → Type 0) (es : Entries) (at : ℕ) : Type 0 where
     pub begins : Begins p k es
     pub in_order : AllInOrder es
     pub reached : AllReached es
-    pub tried : AreTried p k es (take at es)
+    pub tried : AreTried p k es 0 (take at es)
     pub visited : Each P (take at es)
-
-  -- the list grew, and one label of an entry was tried
-  pub record HasTried (most : ℕ) (old new : Entries) (e : Passed) (l : Label) : Type 0 where
-    pub grows : Grows most old new
-    pub tried : IsLabelTried p k new e.next e.items e.configuration l
 
   -- the list grew, and one more entry was visited
   pub record HasSearched (most : ℕ) (P : Passed → Type 0) (old new : Entries) (at : ℕ) : Type 0 where

@@ -5,8 +5,9 @@ use Rattle.pool_syntax.specs.Terms.{ProgramTree}
 use Rattle.run_types.specs.Tables.{Each}
 use Rattle.pool_relation.specs.Configuration.{Configuration}
 use Rattle.pool_relation.specs.Transition.{run, start}
-use Rattle.reachability.specs.Search.{IsReached, WaitsAt, IsStuck, IsUnfinished, IsFaulty, IsClosedAfterSettling}
+use Rattle.reachability.specs.Search.{IsReached, WaitsAt, IsStuck, IsUnfinished, IsFaulty}
 use Rattle.search_laws.specs.Dead.{IsDead, HasDead, CanGoOn}
+use Rattle.search_laws.specs.PutOff.{IsWholeByChoices}
 use Rattle.pool_search.specs.declared.queries.Target.{Target}
 use Rattle.pool_search.specs.declared.queries.Target.TheVariants as W
 use Rattle.pool_search.specs.declared.queries.Query.{Query}
@@ -67,14 +68,14 @@ pub record LeadsTo (p : ProgramTree) (ls : List Label) (P : Configuration → Ty
   pub leads : run p first ls ≡ Some last
   pub holds : P last
 
--- there is a list of k configurations that is closed under the steps of a search
+-- there is a list of k configurations that the steps of a search do not leave, and that puts off no label for ever
 pub record HasWholeList (p : ProgramTree) (k : ℕ) : Type 0 where
   pub list : List (ℕ × Configuration)
-  pub whole : IsClosedAfterSettling p list
+  pub whole : IsWholeByChoices p list
   pub count : length list ≡ k
 
 -- No run leads to a configuration that the query looks for. If it looks for stuck ones, each object that waits in a
--- reached configuration can go on by some run. A closed list of k configurations exists.
+-- reached configuration can go on by some run. A whole list of k configurations exists.
 pub record IsFinite (p : ProgramTree) (q : Query) (k : ℕ) : Type 0 where
   pub never : (d : Configuration) → IsReached p d → IsUnwanted p q d
   pub goes_on : wants_stuck q.wanted ≡ true → (d : Configuration) (o : ℕ) → IsReached p d → WaitsAt p d o → CanGoOn p d o

@@ -1,7 +1,9 @@
 //! The dead objects of an entry, after a search has kept its whole list.
 //!
 //! Each is checked by itself, so no proof depends on how the waiters were noted.
-ghost use Rattle.std.specs.Prelude.{◌≡◌, Ok, Some, IfOk, IfSome, OnOk, slice_get, true, false};
+ghost use Rattle.std.specs.Prelude.{◌≡◌, ◌⊎◌, ℕ, Ok, Some, IfOk, IfSome, OnOk, slice_get, true, false};
+ghost use Rattle.std.specs.List.{filter};
+ghost use Rattle.reachability.specs.Labels.{labels_to_try};
 ghost use Rattle.run_types.specs.Tables.{Each};
 ghost use Rattle.pool_semantics.specs.PlainOf.{configuration_of, program_tree, is_spent};
 ghost use Rattle.reachability.specs.Search.{WaitsAt};
@@ -9,10 +11,12 @@ ghost use Rattle.search_laws.specs.Outcomes.{Passed};
 ghost use Rattle.search_laws.specs.Dead.{IsDead};
 ghost use Rattle.search_laws.specs.ClosedBeside.{IsReachedInOrder};
 ghost use Rattle.pool_search.specs.Entries.{IsEntryAt, entries, searched};
-ghost use Rattle.pool_search.specs.Leads.{IsBeside, StaysAt, StaysIn};
+ghost use Rattle.pool_search.specs.Leads.{IsBeside, LeadsBeside, OneStaysOn, StaysAt, StaysIn};
 ghost use Rattle.pool_search.specs.Progress.{AllInOrder};
+ghost use Rattle.pool_search.specs.Trials.{is_asked, is_tried};
 
 use crate::changes::some_changes;
+use crate::choices::{Trial, is_asked, later, may_choose};
 use crate::explored::Explored;
 use crate::going_on::Lead;
 use crate::waiters::{Waiter, Waiters};
@@ -22,8 +26,8 @@ use std::alloc::{AllocError, Global};
 
 impl<'a> Explored<'a> {
     /// Whether a label of entry `at`, where the stepper is, is impossible, or leads to an entry in which the object waits
-    /// and is not known to go on, without a change of the object. Returns the stepper to the entry. An error means out of
-    /// memory.
+    /// and is not known to go on, without a change of the object. `Over` if neither is known. Returns the stepper to the
+    /// entry. An error means out of memory.
     fn is_beside(
         &mut self,
         plain: &mut Plain<'a>,
@@ -33,7 +37,7 @@ impl<'a> Explored<'a> {
         next: u32,
         label: &Label,
         made: &mut Vec<Label>,
-    ) -> Result<bool, AllocError>
+    ) -> Result<Trial, AllocError>
         requires fresh { is_spent plain.old ≡ false }
         requires program { program_tree plain.old ≡ searched self.old }
         requires there { IsEntryAt (entries self.old) at next (configuration_of plain.old) }
@@ -42,23 +46,152 @@ impl<'a> Explored<'a> {
         ensures again { OnOk result (configuration_of plain.new ≡ configuration_of plain.old) }
         ensures same_program { OnOk result (program_tree plain.new ≡ program_tree plain.old) }
         ensures fresh { OnOk result (is_spent plain.new ≡ false) }
-        ensures beside { result ≡ Ok true → IsBeside (searched self.old) (entries self.old) waiters.now.list.items object next (configuration_of plain.old) label.now }
+        ensures tried { IfOk result (λ t. is_tried t ≡ true → IsBeside (searched self.old) (entries self.old) waiters.now.list.items object next (configuration_of plain.old) label.now) }
+        ensures led { (i : ℕ) → result ≡ Ok (Trial.Led i)
+            → (h : LeadsBeside (searched self.old) (entries self.old) waiters.now.list.items object next (configuration_of plain.old) label.now) × (h.to ≡ i) }
     {
         match self.lead(plain, at, next, label, made) {
-            Ok(Lead::Nowhere) => Ok(true),
+            Ok(Lead::Nowhere) => Ok(Trial::Tried),
             Ok(Lead::To(to)) => {
                 if some_changes(object, made) {
-                    return Ok(false);
+                    return Ok(Trial::Over);
                 }
-                Ok(waiters.has(false, to, object))
+                if waiters.has(false, to, object) {
+                    return Ok(Trial::Led(to));
+                }
+                Ok(Trial::Over)
             }
-            Ok(Lead::Unknown) => Ok(false),
+            Ok(Lead::Unknown) => Ok(Trial::Over),
             Err(_) => Err(AllocError),
         }
     }
 
-    /// The same of all these labels.
+    /// The same of one more label, if it is asked for. `trial` is the result of those before it, and the new result counts
+    /// it too.
+    fn stays_beside(
+        &mut self,
+        plain: &mut Plain<'a>,
+        waiters: &Waiters,
+        object: u32,
+        at: u32,
+        next: u32,
+        label: &Label,
+        served: Option<u32>,
+        trial: Trial,
+        made: &mut Vec<Label>,
+    ) -> Result<Trial, AllocError>
+        requires fresh { is_spent plain.old ≡ false }
+        requires program { program_tree plain.old ≡ searched self.old }
+        requires there { IsEntryAt (entries self.old) at next (configuration_of plain.old) }
+        ensures same { entries self.new ≡ entries self.old }
+        ensures program { searched self.new ≡ searched self.old }
+        ensures again { OnOk result (configuration_of plain.new ≡ configuration_of plain.old) }
+        ensures same_program { OnOk result (program_tree plain.new ≡ program_tree plain.old) }
+        ensures fresh { OnOk result (is_spent plain.new ≡ false) }
+        ensures tried { IfOk result (λ t. is_tried t ≡ true → is_asked served label.now ≡ true
+            → IsBeside (searched self.old) (entries self.old) waiters.now.list.items object next (configuration_of plain.old) label.now) }
+        ensures led { (i : ℕ) → result ≡ Ok (Trial.Led i)
+            → (trial ≡ Trial.Led i) ⊎ OneStaysOn (searched self.old) (entries self.old) waiters.now.list.items object at next (configuration_of plain.old) served i }
+    {
+        if !is_asked(served, label) {
+            return Ok(trial);
+        }
+        match self.is_beside(plain, waiters, object, at, next, label, made) {
+            Ok(Trial::Tried) => Ok(trial),
+            Ok(Trial::Led(to)) => Ok(later(trial, at, to)),
+            Ok(Trial::Over) => Ok(Trial::Over),
+            Err(_) => Err(AllocError),
+        }
+    }
+
+    /// The same of all these labels, or of those that the object `served` serves. `Led` if one of them leads so to a later
+    /// entry.
     fn are_beside(
+        &mut self,
+        alloc: Global,
+        plain: &mut Plain<'a>,
+        waiters: &Waiters,
+        object: u32,
+        at: u32,
+        next: u32,
+        labels: &[Label],
+        served: Option<u32>,
+    ) -> Result<Trial, AllocError>
+        requires fresh { is_spent plain.old ≡ false }
+        requires program { program_tree plain.old ≡ searched self.old }
+        requires there { IsEntryAt (entries self.old) at next (configuration_of plain.old) }
+        ensures same { entries self.new ≡ entries self.old }
+        ensures program { searched self.new ≡ searched self.old }
+        ensures again { OnOk result (configuration_of plain.new ≡ configuration_of plain.old) }
+        ensures same_program { OnOk result (program_tree plain.new ≡ program_tree plain.old) }
+        ensures fresh { OnOk result (is_spent plain.new ≡ false) }
+        ensures tried { IfOk result (λ t. is_tried t ≡ true
+            → Each (IsBeside (searched self.old) (entries self.old) waiters.now.list.items object next (configuration_of plain.old)) (filter (is_asked served) labels.now)) }
+        ensures led { (i : ℕ) → result ≡ Ok (Trial.Led i)
+            → OneStaysOn (searched self.old) (entries self.old) waiters.now.list.items object at next (configuration_of plain.old) served i }
+    {
+        let mut made = Vec::new(alloc);
+        let mut trial = Trial::Tried;
+        for label in labels {
+            match self.stays_beside(
+                plain, waiters, object, at, next, label, served, trial, &mut made,
+            ) {
+                Ok(now) => trial = now,
+                Err(_) => return Err(AllocError),
+            }
+            if trial.is_over() {
+                return Ok(Trial::Over);
+            }
+        }
+        Ok(trial)
+    }
+
+    /// Whether the same holds of all labels that this object serves in entry `at`, where the stepper is, they are enough
+    /// and one of them leads to a later entry.
+    fn stays_by(
+        &mut self,
+        alloc: Global,
+        plain: &mut Plain<'a>,
+        waiters: &Waiters,
+        object: u32,
+        at: u32,
+        next: u32,
+        labels: &[Label],
+        served: u32,
+    ) -> Result<bool, AllocError>
+        requires fresh { is_spent plain.old ≡ false }
+        requires program { program_tree plain.old ≡ searched self.old }
+        requires there { IsEntryAt (entries self.old) at next (configuration_of plain.old) }
+        requires in_order { AllInOrder (entries self.old) }
+        requires labels { labels.now ≡ labels_to_try (searched self.old) next (configuration_of plain.old) }
+        ensures same { entries self.new ≡ entries self.old }
+        ensures program { searched self.new ≡ searched self.old }
+        ensures again { OnOk result (configuration_of plain.new ≡ configuration_of plain.old) }
+        ensures same_program { OnOk result (program_tree plain.new ≡ program_tree plain.old) }
+        ensures fresh { OnOk result (is_spent plain.new ≡ false) }
+        ensures stays { result ≡ Ok true → (e : Passed) → slice_get (entries self.old) at ≡ Some e → StaysIn (searched self.old) (entries self.old) waiters.now.list.items object at e }
+    {
+        if !may_choose(plain, next, served, labels) {
+            return Ok(false);
+        }
+        match self.are_beside(
+            alloc,
+            plain,
+            waiters,
+            object,
+            at,
+            next,
+            labels,
+            Some(served),
+        ) {
+            Ok(Trial::Led(_)) => Ok(true),
+            Ok(_) => Ok(false),
+            Err(_) => Err(AllocError),
+        }
+    }
+
+    /// Whether this is so for some object.
+    fn stays_by_choice(
         &mut self,
         alloc: Global,
         plain: &mut Plain<'a>,
@@ -71,22 +204,56 @@ impl<'a> Explored<'a> {
         requires fresh { is_spent plain.old ≡ false }
         requires program { program_tree plain.old ≡ searched self.old }
         requires there { IsEntryAt (entries self.old) at next (configuration_of plain.old) }
+        requires in_order { AllInOrder (entries self.old) }
+        requires labels { labels.now ≡ labels_to_try (searched self.old) next (configuration_of plain.old) }
         ensures same { entries self.new ≡ entries self.old }
         ensures program { searched self.new ≡ searched self.old }
-        ensures beside { result ≡ Ok true → Each (IsBeside (searched self.old) (entries self.old) waiters.now.list.items object next (configuration_of plain.old)) labels.now }
+        ensures again { OnOk result (configuration_of plain.new ≡ configuration_of plain.old) }
+        ensures same_program { OnOk result (program_tree plain.new ≡ program_tree plain.old) }
+        ensures fresh { OnOk result (is_spent plain.new ≡ false) }
+        ensures stays { result ≡ Ok true → (e : Passed) → slice_get (entries self.old) at ≡ Some e → StaysIn (searched self.old) (entries self.old) waiters.now.list.items object at e }
     {
-        let mut made = Vec::new(alloc);
-        for label in labels {
-            match self.is_beside(plain, waiters, object, at, next, label, &mut made) {
-                Ok(true) => {}
-                Ok(false) => return Ok(false),
+        for served in 0..next {
+            match self.stays_by(alloc, plain, waiters, object, at, next, labels, served) {
+                Ok(true) => return Ok(true),
+                Ok(false) => {}
                 Err(_) => return Err(AllocError),
             }
         }
-        Ok(true)
+        Ok(false)
     }
 
-    /// The same of all labels of entry `at`. `false` if there is no such entry. An error means out of memory.
+    /// Whether the same holds of all labels of entry `at`, where the stepper is, or of those that some awaited object
+    /// serves.
+    fn stays_where(
+        &mut self,
+        alloc: Global,
+        plain: &mut Plain<'a>,
+        waiters: &Waiters,
+        object: u32,
+        at: u32,
+        next: u32,
+        labels: &[Label],
+    ) -> Result<bool, AllocError>
+        requires fresh { is_spent plain.old ≡ false }
+        requires program { program_tree plain.old ≡ searched self.old }
+        requires there { IsEntryAt (entries self.old) at next (configuration_of plain.old) }
+        requires in_order { AllInOrder (entries self.old) }
+        requires labels { labels.now ≡ labels_to_try (searched self.old) next (configuration_of plain.old) }
+        ensures same { entries self.new ≡ entries self.old }
+        ensures program { searched self.new ≡ searched self.old }
+        ensures stays { result ≡ Ok true → (e : Passed) → slice_get (entries self.old) at ≡ Some e → StaysIn (searched self.old) (entries self.old) waiters.now.list.items object at e }
+    {
+        match self.stays_by_choice(alloc, plain, waiters, object, at, next, labels) {
+            Ok(true) => return Ok(true),
+            Ok(false) => {}
+            Err(_) => return Err(AllocError),
+        }
+        let trial = self.are_beside(alloc, plain, waiters, object, at, next, labels, None)?;
+        Ok(!trial.is_over())
+    }
+
+    /// The same of the entry with this number. `false` if there is no such entry. An error means out of memory.
     fn stays_in(
         &mut self,
         alloc: Global,
@@ -94,9 +261,10 @@ impl<'a> Explored<'a> {
         object: u32,
         at: u32,
     ) -> Result<bool, AllocError>
+        requires in_order { AllInOrder (entries self.old) }
         ensures same { entries self.new ≡ entries self.old }
         ensures program { searched self.new ≡ searched self.old }
-        ensures stays { result ≡ Ok true → (e : Passed) → slice_get (entries self.old) at ≡ Some e → StaysIn (searched self.old) (entries self.old) waiters.now.list.items object e }
+        ensures stays { result ≡ Ok true → (e : Passed) → slice_get (entries self.old) at ≡ Some e → StaysIn (searched self.old) (entries self.old) waiters.now.list.items object at e }
     {
         if at as usize >= self.kept.len() {
             return Ok(false);
@@ -105,7 +273,7 @@ impl<'a> Explored<'a> {
         let mut plain = self.kept.configuration(at as usize)?;
         let mut labels = Vec::new(alloc);
         plain.labels(next, &mut labels)?;
-        self.are_beside(alloc, &mut plain, waiters, object, at, next, &labels)
+        self.stays_where(alloc, &mut plain, waiters, object, at, next, &labels)
     }
 
     /// The same of the entry of a waiter, if the waiter is the object and not known to go on.
@@ -116,6 +284,7 @@ impl<'a> Explored<'a> {
         object: u32,
         waiter: Waiter,
     ) -> Result<bool, AllocError>
+        requires in_order { AllInOrder (entries self.old) }
         ensures same { entries self.new ≡ entries self.old }
         ensures program { searched self.new ≡ searched self.old }
         ensures stays { result ≡ Ok true → StaysAt (searched self.old) (entries self.old) waiters.now.list.items object waiter }
@@ -131,6 +300,7 @@ impl<'a> Explored<'a> {
 
     /// The same of all entries in which the object waits and is not known to go on. An error means out of memory.
     fn stays(&mut self, alloc: Global, waiters: &Waiters, object: u32) -> Result<bool, AllocError>
+        requires in_order { AllInOrder (entries self.old) }
         ensures same { entries self.new ≡ entries self.old }
         ensures program { searched self.new ≡ searched self.old }
         ensures stays { result ≡ Ok true → Each (StaysAt (searched self.old) (entries self.old) waiters.now.list.items object) waiters.now.list.items }

@@ -1,15 +1,19 @@
 //! The visited set of a search, and the expansion of its entries.
-ghost use Rattle.std.specs.Prelude.{◌≡◌, ◌+◌, ◌++◌, ◌∷◌, ◌<◌, ◌≤◌, Ok, Some, IfOk, IfSome, get_or, length, slice_get, min, [], true, false};
-ghost use Rattle.pool_relation.specs.Configuration.{Configuration};
+ghost use Rattle.std.specs.Prelude.{◌≡◌, ◌⊎◌, ◌+◌, ◌++◌, ◌∷◌, ◌<◌, ◌≤◌, ℕ, Ok, Some, None, IfOk, IfSome, get_or, length, slice_get, min, [], true, false};
+ghost use Rattle.pool_relation.specs.Transition.{transition};
 ghost use Rattle.pool_semantics.specs.PlainOf.{configuration_of, program_tree, is_spent};
+ghost use Rattle.std.specs.List.{filter};
 ghost use Rattle.reachability.specs.Search.{after};
 ghost use Rattle.reachability.specs.Labels.{labels_to_try};
-ghost use Rattle.search_laws.specs.Outcomes.{Passed, IsPassed};
-ghost use Rattle.search_laws.specs.Tried.{AllLeadInto, Follows, states_only};
+ghost use Rattle.search_laws.specs.Outcomes.{Passed};
+ghost use Rattle.search_laws.specs.Tried.{AllLeadInto, IsExpanded, IsLabelTried, LeadsAt, states_only};
 ghost use Rattle.pool_search.specs.Courses.{course_of};
 ghost use Rattle.pool_search.specs.Entries.{IsEntryAt, IsPassedOver, entries, lists, searched};
-ghost use Rattle.pool_search.specs.Progress.{AllReached, Grows, IsReachedWith, IsSearchedTo, HasTried, HasSearched};
+ghost use Rattle.pool_search.specs.Trials.{is_asked, is_tried, OneLeadsOn, SettlesAt};
+ghost use Rattle.pool_search.specs.VisitedConfigurations.{entry};
+ghost use Rattle.pool_search.specs.Progress.{AllInOrder, AllReached, Grows, IsReachedWith, IsSearchedTo, HasSearched};
 
+use crate::choices::{Trial, is_asked, later, may_choose};
 use crate::classifier::{Classification, judge};
 use crate::queries::Query;
 use crate::scope::{Keeps, Scope};
@@ -38,7 +42,7 @@ pub struct Explored<'a> {
 /// The result of a visit of one entry.
 #[derive(Clone, Copy)]
 pub enum Visit {
-    /// The query does not look for it, and all its labels were tried.
+    /// The query does not look for it, and its labels were tried.
     Done,
     /// The query looks for it.
     Shown,
@@ -93,8 +97,8 @@ impl<'a> Explored<'a> {
         self.kept.len().min(most as usize) as u32
     }
 
-    /// Adds a configuration with the number of what was written, unless the set has it. `false` if a bound is met: the
-    /// set is full, or it would have more than `most` entries. An error means out of memory.
+    /// Adds a configuration with the number of what was written, unless the set has it. Returns the number of its entry.
+    /// None if a bound is met: the set is full, or it would have more than `most` entries. An error means out of memory.
     fn keep(
         &mut self,
         plain: &Plain<'a>,
@@ -102,29 +106,30 @@ impl<'a> Explored<'a> {
         written: u32,
         origin: Origin,
         scope: Scope,
-    ) -> Result<bool, AllocError>
+    ) -> Result<Option<u32>, AllocError>
         requires fresh { is_spent plain.now ≡ false }
         requires program { program_tree plain.now ≡ searched self.old }
         requires named { written < length (lists self.old) }
         requires reached { IsReachedWith (searched self.old) (course_of scope.keeps) (get_or (lists self.old) written []) (configuration_of plain.now) }
         ensures program { searched self.new ≡ searched self.old }
-        ensures grows { IfOk result (λ b. b ≡ true → Grows (searched self.old) (course_of scope.keeps) scope.most (entries self.old) (entries self.new)) }
-        ensures is_in { IfOk result (λ b. b ≡ true → IsPassed next (get_or (lists self.old) written []) (configuration_of plain.now) (entries self.new)) }
+        ensures grows { IfOk result (λ o. IfSome o (λ _. Grows (searched self.old) (course_of scope.keeps) scope.most (entries self.old) (entries self.new))) }
+        ensures there { IfOk result (λ o. IfSome o (λ i. slice_get (entries self.new) i ≡ Some (entry next (get_or (lists self.old) written []) (configuration_of plain.now)))) }
     {
         match self.kept.keep(plain, next, written)? {
-            None => Ok(false),
-            Some(Entry::Seen(_)) => Ok(true),
+            None => Ok(None),
+            Some(Entry::Seen(number)) => Ok(Some(number)),
             Some(Entry::Added(number)) => {
                 if number >= scope.most {
-                    return Ok(false);
+                    return Ok(None);
                 }
                 self.origins.push(origin)?;
-                Ok(true)
+                Ok(Some(number))
             }
         }
     }
 
-    /// Settles a configuration and adds the result. `false` if a bound is met. An error means out of memory.
+    /// Settles a configuration and adds the result. Returns the number of its entry. None if a bound is met. An error
+    /// means out of memory.
     pub fn settle_and_keep(
         &mut self,
         plain: &mut Plain<'a>,
@@ -132,18 +137,17 @@ impl<'a> Explored<'a> {
         written: u32,
         origin: Origin,
         scope: Scope,
-    ) -> Result<bool, AllocError>
+    ) -> Result<Option<u32>, AllocError>
         requires fresh { is_spent plain.old ≡ false }
         requires program { program_tree plain.old ≡ searched self.old }
         requires named { written < length (lists self.old) }
         requires reached { IsReachedWith (searched self.old) (course_of scope.keeps) (get_or (lists self.old) written []) (configuration_of plain.old) }
         ensures program { searched self.new ≡ searched self.old }
-        ensures grows { IfOk result (λ b. b ≡ true → Grows (searched self.old) (course_of scope.keeps) scope.most (entries self.old) (entries self.new)) }
-        ensures leads { IfOk result (λ b. b ≡ true
-            → (e : Configuration) × Follows (searched self.old) (course_of scope.keeps) (configuration_of plain.old) e × IsPassed next (get_or (lists self.old) written []) e (entries self.new)) }
+        ensures grows { IfOk result (λ o. IfSome o (λ _. Grows (searched self.old) (course_of scope.keeps) scope.most (entries self.old) (entries self.new))) }
+        ensures leads { IfOk result (λ o. IfSome o (λ i. SettlesAt (searched self.old) (course_of scope.keeps) (entries self.new) next (get_or (lists self.old) written []) (configuration_of plain.old) i)) }
     {
         if !settle(plain, scope.keeps)? {
-            return Ok(false);
+            return Ok(None);
         }
         self.keep(plain, next, written, origin, scope)
     }
@@ -170,8 +174,8 @@ impl<'a> Explored<'a> {
         }
     }
 
-    /// Tries a label of the entry `origin.from`, where the stepper is, and returns the stepper there.
-    /// `false` if a bound is met. An error means out of memory.
+    /// Tries a label of the entry `origin.from`, where the stepper is, and returns the stepper there. An error means out
+    /// of memory.
     fn follow(
         &mut self,
         plain: &mut Plain<'a>,
@@ -179,39 +183,186 @@ impl<'a> Explored<'a> {
         label: &Label,
         origin: Origin,
         scope: Scope,
-    ) -> Result<bool, AllocError>
+    ) -> Result<Trial, AllocError>
         requires fresh { is_spent plain.old ≡ false }
         requires program { program_tree plain.old ≡ searched self.old }
         requires there { IsEntryAt (entries self.old) origin.from next (configuration_of plain.old) }
         requires reached { AllReached (searched self.old) (course_of scope.keeps) (entries self.old) }
         ensures program { searched self.new ≡ searched self.old }
-        ensures tried { IfOk result (λ b. b ≡ true → (e : Passed) → slice_get (entries self.old) origin.from ≡ Some e
-            → HasTried (searched self.old) (course_of scope.keeps) scope.most (entries self.old) (entries self.new) e label.now) }
-        ensures again { IfOk result (λ b. b ≡ true → configuration_of plain.new ≡ configuration_of plain.old) }
-        ensures same_program { IfOk result (λ b. b ≡ true → program_tree plain.new ≡ program_tree plain.old) }
-        ensures fresh { IfOk result (λ b. b ≡ true → is_spent plain.new ≡ false) }
+        ensures grows { IfOk result (λ t. is_tried t ≡ true → Grows (searched self.old) (course_of scope.keeps) scope.most (entries self.old) (entries self.new)) }
+        ensures impossible { result ≡ Ok Trial.Tried → transition (searched self.old) (configuration_of plain.old) label.now ≡ None }
+        ensures led { (i : ℕ) → result ≡ Ok (Trial.Led i) → (e : Passed) → slice_get (entries self.old) origin.from ≡ Some e
+            → LeadsAt (searched self.old) (course_of scope.keeps) (entries self.new) e.next e.items e.configuration label.now i }
+        ensures again { IfOk result (λ t. is_tried t ≡ true → configuration_of plain.new ≡ configuration_of plain.old) }
+        ensures same_program { IfOk result (λ t. is_tried t ≡ true → program_tree plain.new ≡ program_tree plain.old) }
+        ensures fresh { IfOk result (λ t. is_tried t ≡ true → is_spent plain.new ≡ false) }
     {
         match plain.apply(label) {
             Ok(()) => {}
-            Err(Refuse::NotPossible { .. }) => return Ok(true),
+            Err(Refuse::NotPossible { .. }) => return Ok(Trial::Tried),
             Err(Refuse::Memory) => return Err(AllocError),
         }
         let Some(after) = name_after(next, label) else {
-            return Ok(false);
+            return Ok(Trial::Over);
         };
         let before = self.kept.written(origin.from as usize);
         let Some(written) = self.written_after(scope.keeps, before, label)? else {
-            return Ok(false);
+            return Ok(Trial::Over);
         };
-        if !self.settle_and_keep(plain, after, written, origin, scope)? {
-            return Ok(false);
-        }
+        let Some(place) = self.settle_and_keep(plain, after, written, origin, scope)? else {
+            return Ok(Trial::Over);
+        };
         *plain = self.kept.configuration(origin.from as usize)?;
-        Ok(true)
+        Ok(Trial::Led(place))
     }
 
-    /// Tries these labels of an entry, where the stepper is. `false` if a bound is met. An error means out of memory.
-    fn try_all(
+    /// Tries one more label of the entry `origin.from`, where the stepper is, if it is asked for. `trial` is the result of
+    /// those before it, and the new result counts it too. An error means out of memory.
+    fn try_label(
+        &mut self,
+        plain: &mut Plain<'a>,
+        next: u32,
+        label: &Label,
+        origin: Origin,
+        served: Option<u32>,
+        trial: Trial,
+        scope: Scope,
+    ) -> Result<Trial, AllocError>
+        requires fresh { is_spent plain.old ≡ false }
+        requires program { program_tree plain.old ≡ searched self.old }
+        requires there { IsEntryAt (entries self.old) origin.from next (configuration_of plain.old) }
+        requires reached { AllReached (searched self.old) (course_of scope.keeps) (entries self.old) }
+        ensures program { searched self.new ≡ searched self.old }
+        ensures grows { IfOk result (λ t. is_tried t ≡ true → Grows (searched self.old) (course_of scope.keeps) scope.most (entries self.old) (entries self.new)) }
+        ensures tried { IfOk result (λ t. is_tried t ≡ true → is_asked served label.now ≡ true → (e : Passed) → slice_get (entries self.old) origin.from ≡ Some e
+            → IsLabelTried (searched self.old) (course_of scope.keeps) (entries self.new) e.next e.items e.configuration label.now) }
+        ensures led { (i : ℕ) → result ≡ Ok (Trial.Led i) → (trial ≡ Trial.Led i) ⊎ ((e : Passed) → slice_get (entries self.old) origin.from ≡ Some e
+            → OneLeadsOn (searched self.old) (course_of scope.keeps) (entries self.new) origin.from e served i) }
+        ensures again { IfOk result (λ t. is_tried t ≡ true → configuration_of plain.new ≡ configuration_of plain.old) }
+        ensures same_program { IfOk result (λ t. is_tried t ≡ true → program_tree plain.new ≡ program_tree plain.old) }
+        ensures fresh { IfOk result (λ t. is_tried t ≡ true → is_spent plain.new ≡ false) }
+    {
+        if !is_asked(served, label) {
+            return Ok(trial);
+        }
+        match self.follow(plain, next, label, origin, scope) {
+            Ok(Trial::Tried) => Ok(trial),
+            Ok(Trial::Led(to)) => Ok(later(trial, origin.from, to)),
+            Ok(Trial::Over) => Ok(Trial::Over),
+            Err(_) => Err(AllocError),
+        }
+    }
+
+    /// Tries these labels of entry `at`, where the stepper is, or only those that the object `served` serves. `Led` if one
+    /// of them leads to a later entry. An error means out of memory.
+    fn try_labels(
+        &mut self,
+        plain: &mut Plain<'a>,
+        at: u32,
+        next: u32,
+        labels: &[Label],
+        served: Option<u32>,
+        scope: Scope,
+    ) -> Result<Trial, AllocError>
+        requires fresh { is_spent plain.old ≡ false }
+        requires program { program_tree plain.old ≡ searched self.old }
+        requires there { IsEntryAt (entries self.old) at next (configuration_of plain.old) }
+        requires reached { AllReached (searched self.old) (course_of scope.keeps) (entries self.old) }
+        ensures program { searched self.new ≡ searched self.old }
+        ensures grows { IfOk result (λ t. is_tried t ≡ true → Grows (searched self.old) (course_of scope.keeps) scope.most (entries self.old) (entries self.new)) }
+        ensures tried { IfOk result (λ t. is_tried t ≡ true → (e : Passed) → slice_get (entries self.old) at ≡ Some e
+            → AllLeadInto (searched self.old) (course_of scope.keeps) (entries self.new) e.next e.items e.configuration (filter (is_asked served) labels.now)) }
+        ensures led { (i : ℕ) → result ≡ Ok (Trial.Led i) → (e : Passed) → slice_get (entries self.old) at ≡ Some e
+            → OneLeadsOn (searched self.old) (course_of scope.keeps) (entries self.new) at e served i }
+        ensures again { IfOk result (λ t. is_tried t ≡ true → configuration_of plain.new ≡ configuration_of plain.old) }
+        ensures same_program { IfOk result (λ t. is_tried t ≡ true → program_tree plain.new ≡ program_tree plain.old) }
+        ensures fresh { IfOk result (λ t. is_tried t ≡ true → is_spent plain.new ≡ false) }
+    {
+        let mut trial = Trial::Tried;
+        for (place, label) in labels.iter().enumerate() {
+            let origin = Origin {
+                from: at,
+                label: number(place),
+            };
+            match self.try_label(plain, next, label, origin, served, trial, scope) {
+                Ok(made) => trial = made,
+                Err(_) => return Err(AllocError),
+            }
+            if trial.is_over() {
+                return Ok(Trial::Over);
+            }
+        }
+        Ok(trial)
+    }
+
+    /// Tries the labels of entry `at`, where the stepper is, that the object serves, if they are enough. `Led` if they were
+    /// tried, and one of them leads to a later entry. An error means out of memory.
+    fn try_object(
+        &mut self,
+        plain: &mut Plain<'a>,
+        at: u32,
+        next: u32,
+        labels: &[Label],
+        object: u32,
+        scope: Scope,
+    ) -> Result<Trial, AllocError>
+        requires fresh { is_spent plain.old ≡ false }
+        requires program { program_tree plain.old ≡ searched self.old }
+        requires there { IsEntryAt (entries self.old) at next (configuration_of plain.old) }
+        requires in_order { AllInOrder (entries self.old) }
+        requires reached { AllReached (searched self.old) (course_of scope.keeps) (entries self.old) }
+        requires labels { labels.now ≡ labels_to_try (searched self.old) next (configuration_of plain.old) }
+        ensures program { searched self.new ≡ searched self.old }
+        ensures grows { IfOk result (λ t. is_tried t ≡ true → Grows (searched self.old) (course_of scope.keeps) scope.most (entries self.old) (entries self.new)) }
+        ensures expanded { (i : ℕ) → result ≡ Ok (Trial.Led i) → (e : Passed) → slice_get (entries self.old) at ≡ Some e
+            → IsExpanded (searched self.old) (course_of scope.keeps) (entries self.new) at e.next e.items e.configuration }
+        ensures again { IfOk result (λ t. is_tried t ≡ true → configuration_of plain.new ≡ configuration_of plain.old) }
+        ensures same_program { IfOk result (λ t. is_tried t ≡ true → program_tree plain.new ≡ program_tree plain.old) }
+        ensures fresh { IfOk result (λ t. is_tried t ≡ true → is_spent plain.new ≡ false) }
+    {
+        if !may_choose(plain, next, object, labels) {
+            return Ok(Trial::Tried);
+        }
+        self.try_labels(plain, at, next, labels, Some(object), scope)
+    }
+
+    /// Looks for an object whose labels are enough, and tries them. `Led` if there is one. An error means out of memory.
+    fn try_awaited(
+        &mut self,
+        plain: &mut Plain<'a>,
+        at: u32,
+        next: u32,
+        labels: &[Label],
+        scope: Scope,
+    ) -> Result<Trial, AllocError>
+        requires fresh { is_spent plain.old ≡ false }
+        requires program { program_tree plain.old ≡ searched self.old }
+        requires there { IsEntryAt (entries self.old) at next (configuration_of plain.old) }
+        requires in_order { AllInOrder (entries self.old) }
+        requires reached { AllReached (searched self.old) (course_of scope.keeps) (entries self.old) }
+        requires labels { labels.now ≡ labels_to_try (searched self.old) next (configuration_of plain.old) }
+        ensures program { searched self.new ≡ searched self.old }
+        ensures grows { IfOk result (λ t. is_tried t ≡ true → Grows (searched self.old) (course_of scope.keeps) scope.most (entries self.old) (entries self.new)) }
+        ensures expanded { (i : ℕ) → result ≡ Ok (Trial.Led i) → (e : Passed) → slice_get (entries self.old) at ≡ Some e
+            → IsExpanded (searched self.old) (course_of scope.keeps) (entries self.new) at e.next e.items e.configuration }
+        ensures again { IfOk result (λ t. is_tried t ≡ true → configuration_of plain.new ≡ configuration_of plain.old) }
+        ensures same_program { IfOk result (λ t. is_tried t ≡ true → program_tree plain.new ≡ program_tree plain.old) }
+        ensures fresh { IfOk result (λ t. is_tried t ≡ true → is_spent plain.new ≡ false) }
+    {
+        for object in 0..next {
+            match self.try_object(plain, at, next, labels, object, scope) {
+                Ok(Trial::Tried) => {}
+                Ok(Trial::Led(to)) => return Ok(Trial::Led(to)),
+                Ok(Trial::Over) => return Ok(Trial::Over),
+                Err(_) => return Err(AllocError),
+            }
+        }
+        Ok(Trial::Tried)
+    }
+
+    /// Tries these labels of entry `at`, where the stepper is, or those of one object where that is enough. They are the
+    /// labels to try. `false` if a bound is met. An error means out of memory.
+    fn try_enough(
         &mut self,
         plain: &mut Plain<'a>,
         at: u32,
@@ -222,27 +373,26 @@ impl<'a> Explored<'a> {
         requires fresh { is_spent plain.old ≡ false }
         requires program { program_tree plain.old ≡ searched self.old }
         requires there { IsEntryAt (entries self.old) at next (configuration_of plain.old) }
+        requires in_order { AllInOrder (entries self.old) }
         requires reached { AllReached (searched self.old) (course_of scope.keeps) (entries self.old) }
+        requires labels { labels.now ≡ labels_to_try (searched self.old) next (configuration_of plain.old) }
         ensures program { searched self.new ≡ searched self.old }
         ensures grows { IfOk result (λ b. b ≡ true → Grows (searched self.old) (course_of scope.keeps) scope.most (entries self.old) (entries self.new)) }
-        ensures tried { IfOk result (λ b. b ≡ true → (e : Passed) → slice_get (entries self.old) at ≡ Some e
-            → AllLeadInto (searched self.old) (course_of scope.keeps) (entries self.new) e.next e.items e.configuration labels.now) }
+        ensures expanded { IfOk result (λ b. b ≡ true → (e : Passed) → slice_get (entries self.old) at ≡ Some e
+            → IsExpanded (searched self.old) (course_of scope.keeps) (entries self.new) at e.next e.items e.configuration) }
     {
-        for (place, label) in labels.iter().enumerate() {
-            let origin = Origin {
-                from: at,
-                label: number(place),
-            };
-            match self.follow(plain, next, label, origin, scope) {
-                Ok(true) => {}
-                Ok(false) => return Ok(false),
-                Err(_) => return Err(AllocError),
-            }
+        match self.try_awaited(plain, at, next, labels, scope) {
+            Ok(Trial::Tried) => {}
+            Ok(Trial::Led(_)) => return Ok(true),
+            Ok(Trial::Over) => return Ok(false),
+            Err(_) => return Err(AllocError),
         }
-        Ok(true)
+        let trial = self.try_labels(plain, at, next, labels, None, scope)?;
+        Ok(!trial.is_over())
     }
 
-    /// Tries all labels of an entry, where the stepper is. `false` if a bound is met. An error means out of memory.
+    /// Tries the labels of entry `at`, where the stepper is: all, or those of one object where that is enough. `false` if a
+    /// bound is met. An error means out of memory.
     pub fn expand(
         &mut self,
         alloc: Global,
@@ -254,20 +404,22 @@ impl<'a> Explored<'a> {
         requires fresh { is_spent plain.old ≡ false }
         requires program { program_tree plain.old ≡ searched self.old }
         requires there { IsEntryAt (entries self.old) at next (configuration_of plain.old) }
+        requires in_order { AllInOrder (entries self.old) }
         requires reached { AllReached (searched self.old) (course_of scope.keeps) (entries self.old) }
         ensures program { searched self.new ≡ searched self.old }
         ensures grows { IfOk result (λ b. b ≡ true → Grows (searched self.old) (course_of scope.keeps) scope.most (entries self.old) (entries self.new)) }
-        ensures tried { IfOk result (λ b. b ≡ true → (e : Passed) → slice_get (entries self.old) at ≡ Some e
-            → AllLeadInto (searched self.old) (course_of scope.keeps) (entries self.new) e.next e.items e.configuration (labels_to_try (searched self.old) e.next e.configuration)) }
+        ensures expanded { IfOk result (λ b. b ≡ true → (e : Passed) → slice_get (entries self.old) at ≡ Some e
+            → IsExpanded (searched self.old) (course_of scope.keeps) (entries self.new) at e.next e.items e.configuration) }
     {
         let mut labels = Vec::new(alloc);
         plain.labels(next, &mut labels)?;
-        self.try_all(plain, at, next, &labels, scope)
+        self.try_enough(plain, at, next, &labels, scope)
     }
 
-    /// Visits an entry: tries all its labels, unless the query looks for it. An error means out of memory.
+    /// Visits an entry: tries its labels, unless the query looks for it. An error means out of memory.
     fn visit(&mut self, alloc: Global, at: u32, question: &Query) -> Result<Visit, AllocError>
         requires exists { at < length (entries self.old) }
+        requires in_order { AllInOrder (entries self.old) }
         requires reached { AllReached (searched self.old) states_only (entries self.old) }
         ensures program { searched self.new ≡ searched self.old }
         ensures done { result ≡ Ok Visit.Done

@@ -6,6 +6,7 @@
 #![tactic(auto)]
 
 mod changes;
+mod choices;
 mod classifier;
 mod dead_objects;
 mod ends;

@@ -11,7 +11,7 @@ ghost use Rattle.pool_search.specs.Courses.{course_of};
 ghost use Rattle.pool_search.specs.Entries.{entries, searched};
 ghost use Rattle.pool_search.specs.FoundOutcomes.{IsNoted, IsShownRun};
 ghost use Rattle.pool_search.specs.OutcomeTargets.{IsShown, IsRunOf, HasAllOutcomes};
-ghost use Rattle.pool_search.specs.Progress.{AllReached, HasSearched, IsSearchedTo};
+ghost use Rattle.pool_search.specs.Progress.{AllInOrder, AllReached, HasSearched, IsSearchedTo};
 ghost use Rattle.pool_search.specs.declared.outcomes.Outcome.{Outcome as OneOutcome};
 
 use crate::ends::{Ends, kind_of, written_by};
@@ -102,7 +102,7 @@ fn note_end(
     ends.note(kind_of(plain), items, at)
 }
 
-/// Visits an entry: notes its outcome, and tries all its labels. `false` if a bound is met. An error means out of memory.
+/// Visits an entry: notes its outcome, and tries its labels. `false` if a bound is met. An error means out of memory.
 fn visit(
     alloc: Global,
     explored: &mut Explored<'_>,
@@ -111,6 +111,7 @@ fn visit(
     ends: &mut Ends,
 ) -> Result<bool, AllocError>
     requires exists { at < length (entries explored.old) }
+    requires in_order { AllInOrder (entries explored.old) }
     requires reached { AllReached (searched explored.old) with_writes (entries explored.old) }
     ensures program { searched explored.new ≡ searched explored.old }
     ensures grown { OnOk result ((added : List OneOutcome) × (ends.new.list.items ≡ ends.old.list.items ++ added)) }

@@ -35,10 +35,10 @@ pub fn begin<'a>(
     let mut plain = Plain::make(alloc, program, 0)?;
     let mut explored = Explored::make(alloc, &plain)?;
     let origin = Origin { from: 0, label: 0 };
-    if !explored.settle_and_keep(&mut plain, 1, 0, origin, scope)? {
-        return Ok(None);
+    match explored.settle_and_keep(&mut plain, 1, 0, origin, scope)? {
+        Some(_) => Ok(Some(explored)),
+        None => Ok(None),
     }
-    Ok(Some(explored))
 }
 
 /// The run to an entry, with the objects that are dead there. None if none is known to be dead. An error means out of

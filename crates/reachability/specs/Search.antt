@@ -1,5 +1,5 @@
--- The targets of a search over all runs (stuck, unfinished and faulty configurations that are reached), and lists of
--- configurations that no transition leaves.
+-- The targets of a search over all runs (stuck, unfinished and faulty configurations that are reached), and the order of
+-- new names in runs and in lists of configurations.
 use Rattle.std.specs.Ordering.{nat_cmp}
 use Rattle.run_types.specs.Tables.{pair_cmp, has_some}
 use Rattle.std.specs.FinMap.Entries.{is_sorted}
@@ -105,19 +105,6 @@ needs_no_choice (L.Write o item) = true
 needs_no_choice (L.Fault o e) = true
 needs_no_choice _ = false
 
--- any number of such transitions, one after another
-pub data Settles (p : ProgramTree) : Configuration → Configuration → Type 0 where
-  Settled : {c : Configuration} → Settles p c c
-  Goes : {c d e : Configuration} (l : Label) → needs_no_choice l ≡ true → transition p c l ≡ Some d → Settles p d e → Settles p c e
-
 -- the keys of both maps of the configuration rise
 abbrev pub IsInOrder : Configuration → Type 0
 IsInOrder c = IsTrue (is_sorted nat_cmp c.objects) × IsTrue (is_sorted pair_cmp c.messages)
-
--- the same as `IsClosedSearch` for a search that follows any number of such transitions and keeps only the
--- configurations after them
-pub record IsClosedAfterSettling (p : ProgramTree) (es : List (ℕ × Configuration)) : Type 0 where
-  pub in_order : (n : ℕ) (c : Configuration) → IsIn n c es → IsInOrder c
-  pub begins : (c : Configuration) → start p 0 ≡ Some c → (e : Configuration) × Settles p c e × IsIn 1 e es
-  pub closed : (n : ℕ) (c d : Configuration) (l : Label) → IsIn n c es → names_next n l ≡ true → transition p c l ≡ Some d
-      → (e : Configuration) × Settles p d e × IsIn (after n l) e es

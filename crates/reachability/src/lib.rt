@@ -1,5 +1,4 @@
-//! What a search over all runs is about: reached, stuck and faulty configurations, the labels to try, and lists that no
-//! transition leaves.
+//! What a search over all runs is about: reached, stuck and faulty configurations, and the labels to try.
 //!
 //! Definitions only.
 //!

@@ -11,8 +11,9 @@ use Rattle.pool_relation.specs.Configuration.{Configuration, object_of}
 use Rattle.pool_relation.specs.Transition.{running, transition, run, last_class, start}
 use Rattle.pool_relation.proofs.Laws.{running_is}
 use Rattle.search_laws.specs.Renamed.{Renaming, renamed_program, renamed_label, IsRenamed, IsNameless}
-use Rattle.reachability.specs.Search as S
-use Rattle.reachability.specs.Search.{IsReached, IsClosedAfterSettling, WaitsAt, IsFaulty, IsIn, in_order}
+use Rattle.reachability.specs.Search.{IsReached, WaitsAt, IsFaulty, IsIn, in_order}
+use Rattle.search_laws.specs.ClosedLists as C
+use Rattle.search_laws.specs.ClosedLists.{IsClosedAfterSettling}
 use Rattle.search_laws.specs.ClosedBeside as D
 use Rattle.search_laws.specs.Dead.{changes, some_changes, IsDead, HasDead, CanGoOn}
 use Rattle.search_laws.specs.ClosedBeside.{SettlesFreely, beside}
@@ -155,9 +156,9 @@ as_choices p es whole =
       closed = record { in_order = whole.in_order; in_the_end = λ n c i. P.Every (λ l d named step. let s = whole.closed n c d l i named step in (refl, (s.0, freely d s.0 s.1, s.2))) };
     }
   where
-    freely : (c e : Configuration) → S.Settles p c e → SettlesFreely p any c e
-    freely c e S.Settled = D.AtRest
-    freely c e (S.Goes {d = d} l kind step rest) = D.GoesFreely l kind refl step (freely d e rest)
+    freely : (c e : Configuration) → C.Settles p c e → SettlesFreely p any c e
+    freely c e C.Settled = D.AtRest
+    freely c e (C.Goes {d = d} l kind step rest) = D.GoesFreely l kind refl step (freely d e rest)
 
 -- such a list is whole for ends as well
 pub for_ends : (p : ProgramTree) (es : List (ℕ × Configuration)) → IsWholeByChoices p es → IsWholeForEnds p es
@@ -168,9 +169,9 @@ for_ends p es whole =
       enough = λ n c i. by n c (whole.closed.in_the_end n c i);
     }
   where
-    settled : (c e : Configuration) → SettlesFreely p any c e → S.Settles p c e
-    settled c e D.AtRest = S.Settled
-    settled c e (D.GoesFreely {d = d} l kind is_free step rest) = S.Goes l kind step (settled d e rest)
+    settled : (c e : Configuration) → SettlesFreely p any c e → C.Settles p c e
+    settled c e D.AtRest = C.Settled
+    settled c e (D.GoesFreely {d = d} l kind is_free step rest) = C.Goes l kind step (settled d e rest)
 
     into : (n : ℕ) (c : Configuration) (l : Label) → LeadsFreely p any es n c l → LeadsIn p es n c l
     into n c l leads d named step = let s = leads d named step in (s.1.0, settled d s.1.0 s.1.1, s.1.2)

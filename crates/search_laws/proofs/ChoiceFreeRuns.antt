@@ -12,8 +12,9 @@ use Rattle.pool_relation.specs.Reducible.{AsExpression, AsStatements}
 use Rattle.pool_relation.specs.Action.{method_of, action}
 use Rattle.pool_relation.specs.Configuration.{Configuration, object_of, put_object, messages_of}
 use Rattle.pool_relation.specs.Transition.{running, local_step, makes, calls, posts, returns, waits_on, writes, fails, picked, offer, has_message, first_message, without_first, refilled, done, returned, given, serving, new_object, last_class, transition, start}
-use Rattle.reachability.specs.Search as S
-use Rattle.reachability.specs.Search.{IsReached, IsStuck, IsUnfinished, IsIn, after, names_next, IsInOrder, IsClosedAfterSettling}
+use Rattle.reachability.specs.Search.{IsReached, IsStuck, IsUnfinished, IsIn, after, names_next, IsInOrder}
+use Rattle.search_laws.specs.ClosedLists as C
+use Rattle.search_laws.specs.ClosedLists.{IsClosedAfterSettling}
 use Rattle.search_laws.specs.Renamed.{IsNameless}
 use Rattle.search_laws.proofs.PutsCommute.{sorted_put, sorted_messages}
 use Rattle.search_laws.proofs.ReducedSearch.{Settled, Goes}
@@ -60,9 +61,9 @@ label_sorts p c (L.Fault o r) s =
 pub sorted_after : (p : ProgramTree) (c d : Configuration) (l : Label) → IsInOrder c → transition p c l ≡ Some d → IsInOrder d
 sorted_after p c d l s i = let all : Sorts (Some d) = subst Sorts i (label_sorts p c l s) in elim all [ SortsAll h ↦ h ]
 
-pub settles : (p : ProgramTree) (c e : Configuration) → IsInOrder c → S.Settles p c e → SettlesAlone p c e
-settles p c e s S.Settled = Settled
-settles p c e s (S.Goes {d = d} l kind i rest) = Goes (record { kind = kind; sorted = s }) i (settles p d e (sorted_after p c d l s i) rest)
+pub settles : (p : ProgramTree) (c e : Configuration) → IsInOrder c → C.Settles p c e → SettlesAlone p c e
+settles p c e s C.Settled = Settled
+settles p c e s (C.Goes {d = d} l kind i rest) = Goes (record { kind = kind; sorted = s }) i (settles p d e (sorted_after p c d l s i) rest)
 
 pub start_sorted : (p : ProgramTree) (c : Configuration) → start p 0 ≡ Some c → IsInOrder c
 start_sorted p c e = let all : Sorts (Some c) = subst Sorts e (each (last_class p) _ (λ k. SortsAll (refl, refl))) in elim all [ SortsAll h ↦ h ]

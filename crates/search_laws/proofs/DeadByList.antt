@@ -3,7 +3,8 @@
 use Rattle.std.proofs.Common.{ap, ℕ, List, not}
 use Rattle.pool_syntax.specs.Terms.{ProgramTree}
 use Rattle.pool_relation.specs.Configuration.{Configuration}
-use Rattle.reachability.specs.Search.{IsReached, IsClosedAfterSettling, WaitsAt, IsIn}
+use Rattle.reachability.specs.Search.{IsReached, WaitsAt, IsIn}
+use Rattle.search_laws.specs.ClosedLists.{IsClosedAfterSettling}
 use Rattle.search_laws.specs.Renamed.{IsNameless}
 use Rattle.search_laws.specs.Dead.{IsDead, HasDead, CanGoOn}
 use Rattle.search_laws.specs.ClosedBeside.{beside, IsClosedBeside}

@@ -7,7 +7,8 @@ use Rattle.pool_relation.specs.Configuration.{Configuration}
 use Rattle.pool_relation.specs.Transition.{transition, run}
 use Rattle.pool_relation.proofs.Laws.{joined}
 use Rattle.search_laws.specs.Renamed.{Renaming, renamed_program, renamed_label, IsRenamed, IsNameless}
-use Rattle.reachability.specs.Search.{IsReached, WaitsAt, IsIn, IsClosedAfterSettling}
+use Rattle.reachability.specs.Search.{IsReached, WaitsAt, IsIn}
+use Rattle.search_laws.specs.ClosedLists.{IsClosedAfterSettling}
 use Rattle.search_laws.specs.Dead.{some_changes, CanGoOn}
 use Rattle.search_laws.proofs.RenamedTransition.{Alike, Neither, Both}
 use Rattle.search_laws.proofs.RenamedRun.{run_renamed}

@@ -7,7 +7,8 @@ use Rattle.run_types.specs.Partial.{◌>>=◌}
 use Rattle.pool_relation.specs.Configuration.{Configuration}
 use Rattle.pool_relation.specs.Transition.{transition, run, last_class, start}
 use Rattle.search_laws.specs.Renamed.{Renaming, renamed_program, renamed_label, IsRenamed, IsNameless}
-use Rattle.reachability.specs.Search.{IsReached, needs_no_choice, IsFaulty, after, names_next, in_order, IsIn, IsClosedAfterSettling}
+use Rattle.reachability.specs.Search.{IsReached, needs_no_choice, IsFaulty, after, names_next, in_order, IsIn}
+use Rattle.search_laws.specs.ClosedLists.{IsClosedAfterSettling}
 use Rattle.search_laws.proofs.RenamedTransition.{Alike, Neither, Both}
 use Rattle.search_laws.proofs.RenamedRun.{run_renamed, makes_none}
 use Rattle.search_laws.proofs.NamesInOrder.{swap_first, swapped, same_all, arranged}

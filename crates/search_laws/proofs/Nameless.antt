@@ -13,7 +13,7 @@ use Rattle.search_laws.specs.Renamed.{renamed_expression, renamed_expressions, r
 
 module _ (f : ℕ → ℕ) where
   mutual
-    expression_nameless : (e : Expr) → renamed_expression f (expression_of e) ≡ expression_of e
+    pub expression_nameless : (e : Expr) → renamed_expression f (expression_of e) ≡ expression_of e
     expression_nameless (Int v p) = refl
     expression_nameless (Bool b p) = refl
     expression_nameless (Nil p) = refl
@@ -32,7 +32,7 @@ module _ (f : ℕ → ℕ) where
     row_nameless (more_of-Expr e es) =
         ap (λ x. T.Arg x (renamed_expressions f (expression_row es))) (expression_nameless e) ∙ ap (T.Arg (expression_of e)) (row_nameless es)
 
-  list_nameless : (es : List Expr) → renamed_expressions f (expressions_of es) ≡ expressions_of es
+  pub list_nameless : (es : List Expr) → renamed_expressions f (expressions_of es) ≡ expressions_of es
   list_nameless [] = refl
   list_nameless (e ∷ es) = ap (λ x. T.Arg x (renamed_expressions f (expressions_of es))) (expression_nameless e) ∙ ap (T.Arg (expression_of e)) (list_nameless es)
 
@@ -64,7 +64,7 @@ module _ (f : ℕ → ℕ) where
         ∙ ap (λ x. T.Alt (expression_of e) names x (renamed_alternatives f (alternative_row alts))) (statements_nameless ss)
         ∙ ap (T.Alt (expression_of e) names (statement_row ss)) (alternatives_nameless alts)
 
-  body_nameless : (ss : List Stmt) → renamed_statements f (statements_of ss) ≡ statements_of ss
+  pub body_nameless : (ss : List Stmt) → renamed_statements f (statements_of ss) ≡ statements_of ss
   body_nameless [] = refl
   body_nameless (s ∷ ss) = ap (λ x. T.Then x (renamed_statements f (statements_of ss))) (statement_nameless s) ∙ ap (T.Then (statement_of s)) (body_nameless ss)
 

@@ -17,7 +17,7 @@ use Rattle.run_types.specs.Same.{are_same}
 use Rattle.pool_relation.specs.Action.{Object, method_of, action}
 use Rattle.pool_relation.specs.Configuration.{Configuration, object_of, put_object, messages_of, put_messages}
 use Rattle.pool_relation.specs.Transition.{running, local_step, calls, posts, writes, fails, picked, offer, has_message, first_message, without_first, refilled, done, serving, transition}
-use Rattle.reachability.specs.Search.{Settles, Settled, Goes}
+use Rattle.search_laws.specs.ClosedLists.{Settles, Settled, Goes}
 use Rattle.search_laws.specs.Moves.{by_moves, Rests, Still, ByItself, ByWriting, BySending, ByFailing, posted, HaveReceivers}
 use Rattle.search_laws.proofs.PutsCommute.{at_itself, still_there}
 use Rattle.search_laws.proofs.Commutation.{running_at}

@@ -10,7 +10,9 @@ use Rattle.search_laws.specs.Stubborn.{are_others}
 use Rattle.search_laws.specs.ClosedBeside as D
 use Rattle.search_laws.specs.ClosedBeside.{SettlesFreely}
 use Rattle.search_laws.specs.PutOff as F
-use Rattle.search_laws.specs.PutOff.{LeadsFreely, IsTriedInTheEnd, IsClosedByChoices, IsTriedAt}
+use Rattle.search_laws.specs.PutOff.{LeadsFreely, IsTriedInTheEnd, IsClosedByChoices}
+use Rattle.search_laws.specs.TriedAt as A
+use Rattle.search_laws.specs.TriedAt.{IsTriedAt}
 use Rattle.search_laws.proofs.ReducedSearch.{stays, both_hold, First, first_of, joined_step}
 use Rattle.search_laws.proofs.Commutation.{Alone, alone_makes_none, same_label, commutes}
 use Rattle.search_laws.proofs.ChoiceFreeRuns.{sorted_after}
@@ -136,13 +138,13 @@ module _ (p : ProgramTree) (free : Label → Bool) (es : List (ℕ × Configurat
   to_the_end zero i n c far at = by (tried i n c at)
     where
       by : IsTriedAt p free es At i n c → IsTriedInTheEnd p free es n c
-      by (F.AllThere leads) = F.Every leads
-      by (F.SomeThere chosen stubborn leads d e step settles j later there) = absurd (let low = within j n e there in omega arith)
+      by (A.AllThere leads) = F.Every leads
+      by (A.SomeThere chosen stubborn leads d e step settles j later there) = absurd (let low = within j n e there in omega arith)
   to_the_end (suc left) i n c far at = by (tried i n c at) (to_the_end left)
     where
       by : IsTriedAt p free es At i n c → ((i n : ℕ) (c : Configuration) → most ≤ i + left → At i n c → IsTriedInTheEnd p free es n c) → IsTriedInTheEnd p free es n c
-      by (F.AllThere leads) again = F.Every leads
-      by (F.SomeThere chosen stubborn leads d e step settles j later there) again =
+      by (A.AllThere leads) again = F.Every leads
+      by (A.SomeThere chosen stubborn leads d e step settles j later there) again =
           F.Chosen chosen stubborn leads d e step settles (inside j n e there) (again j n e (omega arith) there)
 
   pub in_the_end_by_places : (i n : ℕ) (c : Configuration) → At i n c → IsTriedInTheEnd p free es n c

@@ -21,16 +21,17 @@ use Rattle.reachability.specs.Search.{IsReached, IsStuck, IsFaulty, WaitsAt, IsI
 use Rattle.search_laws.specs.Renamed.{IsNameless}
 use Rattle.reachability.specs.Labels.{labels_to_try}
 use Rattle.search_laws.specs.Outcomes.{Passed}
-use Rattle.search_laws.specs.Tried.{Follows, Stays, IsTried, states_only, state_of}
+use Rattle.search_laws.specs.Tried.{Follows, Stays, Every, IsTried, states_only, state_of}
+use Rattle.search_laws.specs.PutOff.{IsWholeByChoices}
 use Rattle.search_laws.specs.Dead.{IsDead, HasDead}
 use Rattle.search_laws.specs.Caught.{is_caught}
 use Rattle.search_laws.proofs.Dead.{stuck_is_dead}
 use Rattle.search_laws.proofs.Caught.{caught_is_dead}
 use Rattle.search_laws.proofs.CaughtWalk.{is_told_caught}
 use Rattle.search_laws.proofs.AllLabels.{at_end_by_trying}
-use Rattle.search_laws.proofs.ChoiceFreeRuns.{never_stuck_after_settling}
+use Rattle.search_laws.proofs.Choices.{never_stuck_by_choices}
+use Rattle.search_laws.proofs.ByChoices.{for_ends, never_faulty_by_choices}
 use Rattle.search_laws.proofs.AllLabelsTried.{follows_by, whole_by_trying, nobody_waits, nobody_faulty}
-use Rattle.search_laws.proofs.KeptOnTheWay.{never_faulty_after_settling}
 
 abbrev name : ℕ → NameId
 name n = record { 0 = n }
@@ -154,11 +155,11 @@ is_tried = record {
   begins = λ c e. (first, subst (λ (x : Configuration). Follows program states_only x first) (same_some e) Stays, inl (refl, refl, refl));
   tried = (
     (refl, refl),
-    (inr (record { next = reached program (creates ∷ []); step = refl; to = second; follows = follows_by program states_only _ second asks refl refl; is_in = inr (inl (refl, refl, refl)) }), tt),
+    Every (inr (record { next = reached program (creates ∷ []); step = refl; to = second; follows = follows_by program states_only _ second asks refl refl; is_in = inr (inl (refl, refl, refl)) }), tt),
     (
       (refl, refl),
-      (inr (record { next = reached program (creates ∷ (asks ++ answers ∷ [])); step = refl; to = third; follows = follows_by program states_only _ third finishes refl refl; is_in = inr (inr (inl (refl, refl, refl))) }), tt),
-      ((refl, refl), tt, tt),
+      Every (inr (record { next = reached program (creates ∷ (asks ++ answers ∷ [])); step = refl; to = third; follows = follows_by program states_only _ third finishes refl refl; is_in = inr (inr (inl (refl, refl, refl))) }), tt),
+      ((refl, refl), Every tt, tt),
     ),
   );
 }
@@ -178,12 +179,15 @@ none_faulty n c (inr (inr (inr i))) f = absurd i
 nameless : IsNameless program
 nameless f = refl
 
+whole : IsWholeByChoices program states
+whole = whole_by_trying program kept nameless is_tried
+
 -- no run of the program leads to a stuck configuration, nor to a faulty one
 never_stuck : (d : Configuration) → IsReached program d → ¬ (IsStuck program d)
-never_stuck = never_stuck_after_settling program states nameless (whole_by_trying program kept is_tried) none_stuck
+never_stuck d reached = never_stuck_by_choices program states nameless (for_ends program states whole) none_stuck d reached
 
 never_faulty : (d : Configuration) → IsReached program d → ¬ (IsFaulty d)
-never_faulty = never_faulty_after_settling program states nameless (whole_by_trying program kept is_tried) none_faulty
+never_faulty d reached = never_faulty_by_choices program states nameless whole none_faulty d reached
 
 -- an object that calls itself is caught, so it is dead
 itself_caught : is_caught itself (reached itself (L.Local 0 ∷ [])) 0 ≡ true

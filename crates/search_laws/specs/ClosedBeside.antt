@@ -4,13 +4,9 @@ use Rattle.run_types.specs.declared.types.Label.{Label}
 use Rattle.pool_syntax.specs.Terms.{ProgramTree}
 use Rattle.pool_relation.specs.Configuration.{Configuration}
 use Rattle.pool_relation.specs.Transition.{transition, run, start}
-use Rattle.reachability.specs.Search.{IsIn, IsInOrder, after, names_next, in_order, needs_no_choice}
+use Rattle.reachability.specs.Search.{IsIn, IsInOrder, after, names_next, in_order}
 use Rattle.search_laws.specs.Dead.{changes}
-
--- any number of transitions that need no choice and have free labels, one after another
-pub data SettlesFreely (p : ProgramTree) (free : Label → Bool) : Configuration → Configuration → Type 0 where
-  AtRest : {c : Configuration} → SettlesFreely p free c c
-  GoesFreely : {c d e : Configuration} (l : Label) → needs_no_choice l ≡ true → free l ≡ true → transition p c l ≡ Some d → SettlesFreely p free d e → SettlesFreely p free c e
+pub use Rattle.search_laws.specs.FreeSettling.{SettlesFreely, AtRest, GoesFreely}
 
 -- the labels that do not change the object o
 abbrev pub beside : ℕ → Label → Bool

@@ -6,8 +6,8 @@ use Rattle.pool_syntax.specs.Terms.{ProgramTree}
 use Rattle.pool_relation.specs.Configuration.{Configuration}
 use Rattle.pool_relation.specs.Transition.{transition, start}
 use Rattle.reachability.specs.Search.{IsIn, IsInOrder, after, names_next}
-use Rattle.search_laws.specs.Stubborn.{IsStubborn}
-use Rattle.search_laws.specs.ClosedBeside.{SettlesFreely}
+use Rattle.search_laws.specs.FreeSettling.{SettlesFreely}
+use Rattle.search_laws.specs.StubbornSets.{IsStubborn}
 
 -- if the label is possible, it is free, and leads into the list after some free transitions that need no choice
 abbrev pub LeadsFreely : ProgramTree → (Label → Bool) → List (ℕ × Configuration) → ℕ → Configuration → Label → Type 0
@@ -34,10 +34,3 @@ any l = true
 pub record IsWholeByChoices (p : ProgramTree) (es : List (ℕ × Configuration)) : Type 0 where
   pub begins : (c : Configuration) → start p 0 ≡ Some c → (e : Configuration) × SettlesFreely p any c e × IsIn 1 e es
   pub closed : IsClosedByChoices p any es
-
--- The same for a list with places, as a search knows it that appends what it reaches. The label that stays possible
--- leads to a later place.
-pub data IsTriedAt (p : ProgramTree) (free : Label → Bool) (es : List (ℕ × Configuration)) (At : ℕ → ℕ → Configuration → Type 0) (i n : ℕ) (c : Configuration) : Type 0 where
-  AllThere : ((l : Label) → LeadsFreely p free es n c l) → IsTriedAt p free es At i n c
-  SomeThere : (chosen : Label → Bool) (stubborn : IsStubborn p n c chosen) → ((l : Label) → chosen l ≡ true → LeadsFreely p free es n c l)
-      → (d e : Configuration) → transition p c stubborn.one ≡ Some d → SettlesFreely p free d e → (j : ℕ) → i < j → At j n e → IsTriedAt p free es At i n c

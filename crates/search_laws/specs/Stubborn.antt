@@ -1,4 +1,4 @@
--- Stubborn sets: sets of labels that are enough to try in a configuration, although other labels are possible.
+-- Lists of a search for ends with stubborn sets, and which labels of one object are such a set.
 use Rattle.std.specs.Prelude.{◌==◌, ◌||◌, ◌<◌, ◌≤◌, if◌then◌else◌, map, is_some, None, ◌≡◌, ℕ, List, [], ◌∷◌, Some, Bool, true, false, not, ◌&&◌}
 use Rattle.run_types.specs.declared.types.Label.{Label}
 use Rattle.run_types.specs.declared.types.Label.TheVariants as L
@@ -7,29 +7,10 @@ use Rattle.pool_relation.specs.Action as A
 use Rattle.pool_relation.specs.Action.{Object, Action, action}
 use Rattle.pool_relation.specs.Configuration.{Configuration, object_of, messages_of}
 use Rattle.search_laws.specs.Renamed.{renamed_object, renamed_message}
+pub use Rattle.search_laws.specs.StubbornSets.{are_others, makes_one, IsStubborn}
 use Rattle.pool_relation.specs.Transition.{transition, run, start}
-use Rattle.reachability.specs.Search.{IsIn, IsInOrder, Settles, after, names_next, in_order}
-
--- none of these labels is in the set
-abbrev pub are_others : (Label → Bool) → List Label → Bool
-are_others chosen [] = true
-are_others chosen (l ∷ ls) = not (chosen l) && are_others chosen ls
-
--- the label makes an object
-abbrev pub makes_one : Label → Bool
-makes_one (L.New o n k) = true
-makes_one _ = false
-
--- The set is stubborn in c, where n is the next name. No label of it makes an object. One label of it stays possible,
--- whatever other labels come first. If a label of it is possible after other labels, it is also possible before them,
--- and they lead to the same configuration after it.
-pub record IsStubborn (p : ProgramTree) (n : ℕ) (c : Configuration) (chosen : Label → Bool) : Type 0 where
-  pub makes_none : (l : Label) → chosen l ≡ true → makes_one l ≡ false
-  pub one : Label
-  pub is_chosen : chosen one ≡ true
-  pub stays : (ls : List Label) (d : Configuration) → are_others chosen ls ≡ true → in_order n ls ≡ true → run p c ls ≡ Some d → (x : Configuration) × (transition p d one ≡ Some x)
-  pub first : (ls : List Label) (d x : Configuration) (l : Label) → are_others chosen ls ≡ true → in_order n ls ≡ true → run p c ls ≡ Some d → chosen l ≡ true → transition p d l ≡ Some x
-      → (e : Configuration) × (transition p c l ≡ Some e) × (run p e ls ≡ Some x)
+use Rattle.reachability.specs.Search.{IsIn, IsInOrder, after, names_next, in_order}
+use Rattle.search_laws.specs.ClosedLists.{Settles}
 
 -- if the label is possible, it leads into the list, after some transitions that need no choice
 abbrev pub LeadsIn : ProgramTree → List (ℕ × Configuration) → ℕ → Configuration → Label → Type 0

@@ -1,5 +1,7 @@
--- Lists of which all labels were tried, for a search that keeps configurations alone, or also what was written.
-use Rattle.std.specs.Prelude.{◌≡◌, ◌⊎◌, ℕ, List, [], ◌∷◌, ◌++◌, Some, None, Bool, true}
+-- Lists of which the labels were tried, for a search that keeps configurations alone, or also what was written. Of an
+-- entry all labels were tried, or those of one object that are enough.
+use Rattle.std.specs.Prelude.{◌≡◌, ◌⊎◌, ◌<◌, ℕ, suc, List, [], ◌∷◌, ◌++◌, Some, None, Bool, true}
+use Rattle.std.specs.List.{filter, slice_get}
 use Rattle.run_types.specs.declared.types.Item.{Item}
 use Rattle.run_types.specs.declared.types.Label.{Label}
 use Rattle.pool_syntax.specs.Terms.{ProgramTree}
@@ -9,6 +11,7 @@ use Rattle.reachability.specs.Search.{after, needs_no_choice, IsInOrder}
 use Rattle.reachability.specs.Labels.{labels_to_try, is_silent}
 use Rattle.reachability.specs.Outcomes.{items_of}
 use Rattle.search_laws.specs.Outcomes.{Passed, IsPassed}
+use Rattle.search_laws.specs.Stubborn.{IsAwaited, is_served}
 
 -- what a search keeps of the label that leads to a configuration, and which labels it follows without keeping the
 -- configurations between
@@ -51,21 +54,36 @@ module _ (p : ProgramTree) (k : Course) where
   AllLeadInto es n w c [] = Unit {0}
   AllLeadInto es n w c (l ∷ ls) = IsLabelTried es n w c l × AllLeadInto es n w c ls
 
-  -- each configuration of the second list is in order, and each of its labels to try leads into the first list or is not
-  -- possible
-  abbrev pub AreTried : List Passed → List Passed → Type 0
-  AreTried es [] = Unit {0}
-  AreTried es (e ∷ rest) = IsInOrder e.configuration × AllLeadInto es e.next e.items e.configuration (labels_to_try p e.next e.configuration) × AreTried es rest
+  -- the label leads to the entry at this place, after some transitions that are followed
+  pub record LeadsAt (es : List Passed) (n : ℕ) (w : List Item) (c : Configuration) (l : Label) (place : ℕ) : Type 0 where
+    pub next : Configuration
+    pub step : transition p c l ≡ Some next
+    pub to : Configuration
+    pub follows : Follows next to
+    pub there : slice_get es place ≡ Some (record { next = after n l; items = w ++ k.keeps l; configuration = to })
+
+  -- Each label to try of the entry at the place i leads into the list or is impossible. Or each of those of an awaited
+  -- object does, and one of them leads to a later entry.
+  pub data IsExpanded (es : List Passed) (i n : ℕ) (w : List Item) (c : Configuration) : Type 0 where
+    Every : AllLeadInto es n w c (labels_to_try p n c) → IsExpanded es i n w c
+    Those : (b : ℕ) (awaited : IsAwaited p n b c) → AllLeadInto es n w c (filter (is_served b) (labels_to_try p n c)) → (place : ℕ) → i < place → LeadsAt es n w c awaited.one place
+        → IsExpanded es i n w c
+
+  -- each configuration of the second list, of which the first has the place i, is in order and was expanded into the
+  -- first list
+  abbrev pub AreTried : List Passed → ℕ → List Passed → Type 0
+  AreTried es i [] = Unit {0}
+  AreTried es i (e ∷ rest) = IsInOrder e.configuration × IsExpanded es i e.next e.items e.configuration × AreTried es (suc i) rest
 
   -- the start settles into the list
   abbrev pub Begins : List Passed → Type 0
   Begins es = (c : Configuration) → start p 0 ≡ Some c → (e : Configuration) × Follows c e × IsPassed 1 [] e es
 
-  -- the facts that a search has established at its end: the start leads into the list, and all labels of each
-  -- configuration were tried
+  -- the facts that a search has established at its end: the start leads into the list, and each configuration was
+  -- expanded into it
   pub record IsTried (es : List Passed) : Type 0 where
     pub begins : Begins es
-    pub tried : AreTried es es
+    pub tried : AreTried es 0 es
 
 -- the configuration with its next name
 abbrev pub state_of : Passed → ℕ × Configuration

@@ -12,9 +12,9 @@ ghost use Rattle.pool_relation.specs.Transition.{transition, run};
 ghost use Rattle.search_laws.specs.Renamed.{Renaming, renamed_item, renamed_program, renamed_label, IsRenamed, IsNameless};
 ghost use Rattle.reachability.specs.Labels.{IsAmong, labels_to_try};
 ghost use Rattle.search_laws.specs.Tried.{IsTried, states_only, with_writes, state_of};
-ghost use Rattle.reachability.specs.Search.{Settles, WaitsAt, IsReached, IsAtEnd, IsStuck, IsUnfinished, IsFaulty, IsIn, IsClosedAfterSettling, names_next};
+ghost use Rattle.reachability.specs.Search.{WaitsAt, IsReached, IsAtEnd, IsStuck, IsUnfinished, IsFaulty, IsIn, names_next};
 ghost use Rattle.reachability.specs.Outcomes.{EndsWith, IsOneOf, all_name_none};
-ghost use Rattle.search_laws.specs.ClosedLists.{IsClosedSearch};
+ghost use Rattle.search_laws.specs.ClosedLists.{IsClosedSearch, Settles, IsClosedAfterSettling};
 ghost use Rattle.search_laws.specs.Dead.{IsDead, HasDead, CanGoOn};
 ghost use Rattle.search_laws.specs.ClosedBeside.{beside, IsClosedBeside, IsReachedInOrder};
 ghost use Rattle.search_laws.specs.Stubborn.{IsStubborn, IsAwaited, is_served, IsWholeForEnds};
@@ -77,10 +77,11 @@ pub fn no_other_label_is_possible()
     ensures { (p : ProgramTree) (c d : Configuration) (n : ℕ) (l : Label) → names_next n l ≡ true → transition p c l ≡ Some d → IsAmong l (labels_to_try p n c) }
 {}
 
-/// A list of which all labels were tried is closed, and one that also has what was written misses no outcome.
+/// A search may try the labels of one awaited object alone, where one of them leads to a later entry. The list of such a
+/// search puts off no label for ever. If it also has what was written, it misses no outcome.
 pub fn a_tried_list_is_whole()
-    ensures states { (p : ProgramTree) (es : List Passed) → IsTried p states_only es → IsClosedAfterSettling p (map state_of es) }
-    ensures outcomes { (p : ProgramTree) (es : List Passed) → IsTried p with_writes es → IsWholeWith p None es }
+    ensures states { (p : ProgramTree) (es : List Passed) → IsNameless p → IsTried p states_only es → IsWholeByChoices p (map state_of es) }
+    ensures outcomes { (p : ProgramTree) (es : List Passed) → IsNameless p → IsTried p with_writes es → IsWholeWithChoices p es }
 {}
 
 /// A search can tell everything that runs write until no label is possible. It keeps with each configuration what was

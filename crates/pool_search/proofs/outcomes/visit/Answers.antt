@@ -1,9 +1,8 @@
 use Rattle.std.proofs.Common.{◌≡◌, Bool, true, ℕ, Some, refl, subst, slice_get}
 use Rattle.std.specs.Prelude.{IfOk, IfSome}
 use Rattle.pool_semantics.specs.PlainOf.{configuration_of}
-use Rattle.reachability.specs.Labels.{labels_to_try}
 use Rattle.search_laws.specs.Outcomes.{Passed}
-use Rattle.search_laws.specs.Tried.{Course, AllLeadInto, with_writes}
+use Rattle.search_laws.specs.Tried.{Course, IsExpanded, with_writes}
 use Rattle.pool_search.specs.Courses.{course_of}
 use Rattle.pool_search.specs.Entries.{IsEntryAt, entries, searched}
 use Rattle.pool_search.specs.FoundOutcomes.{IsNoted}
@@ -31,10 +30,9 @@ returns-clause-done c =
     let most = c.scope_of.result.most in
     λ i.
     let grown : Grows p k most es fs = (subst (λ r. IfOk r (λ b. b ≡ true → Grows p k most es fs)) i c.expand.ensures.grows) refl in
-    let tried : AllLeadInto p k fs here.next here.items here.configuration (labels_to_try p here.next here.configuration) =
-    (subst (λ r. IfOk r (λ b. b ≡ true → (e : Passed) → slice_get es c.args.at ≡ Some e → AllLeadInto p k fs e.next e.items e.configuration (labels_to_try p e.next e.configuration))) i
-    c.expand.ensures.tried) refl here there.1
+    let tried : IsExpanded p k fs c.args.at here.next here.items here.configuration =
+    (subst (λ r. IfOk r (λ b. b ≡ true → (e : Passed) → slice_get es c.args.at ≡ Some e → IsExpanded p k fs c.args.at e.next e.items e.configuration)) i c.expand.ensures.expanded) refl here there.1
     in
     has_searched p with_writes c.args.most (IsNoted p os) es fs c.args.at here there.1 noted
     (subst (λ (q : Course). Grows p q c.args.most es fs) c.scope_of.ensures.1 (subst (λ (m : ℕ). Grows p k m es fs) c.scope_of.ensures.0 grown))
-    (subst (λ (q : Course). AllLeadInto p q fs here.next here.items here.configuration (labels_to_try p here.next here.configuration)) c.scope_of.ensures.1 tried)
+    (subst (λ (q : Course). IsExpanded p q fs c.args.at here.next here.items here.configuration) c.scope_of.ensures.1 tried)

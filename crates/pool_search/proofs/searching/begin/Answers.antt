@@ -1,11 +1,14 @@
 use Rattle.std.proofs.Common.{◌≡◌, [], ◌∷◌, List, sym, ap, ◌∙◌, subst, Some, get_or}
+use Rattle.std.specs.Prelude.{IfSome}
 use Rattle.run_types.specs.declared.types.Item.{Item}
 use Rattle.pool_syntax.specs.Terms.{ProgramTree}
 use Rattle.pool_relation.specs.Transition.{start}
 use Rattle.pool_semantics.specs.PlainOf.{configuration_of}
 use Rattle.pool_search.specs.Courses.{course_of}
-use Rattle.pool_search.specs.Entries.{lists, searched}
-use Rattle.pool_search.specs.Progress.{IsReachedWith}
+use Rattle.pool_search.specs.Entries.{entries, lists, searched}
+use Rattle.pool_search.specs.Progress.{Entries, Grows, IsReachedWith, IsSearchedTo}
+use Rattle.pool_search.specs.Trials.{SettlesAt}
+use Rattle.pool_search.proofs.EntryExpansion.{begun_at}
 use Rattle.pool_search.proofs.RunExtension.{reached_start}
 use Rattle.pool_search.proofs.searching.begin.Goals as goal
 
@@ -18,3 +21,21 @@ settle_and_keep-requires-clause-reached c =
     let nothing : get_or (lists e) 0 [] ≡ [] = ap (λ (ws : List (List Item)). get_or ws 0 []) c.in_ok-explored.ensures.lists in
     subst (λ (w : List Item). IsReachedWith (searched e) k w first) (sym nothing)
     (reached_start (searched e) k first (subst (λ (q : ProgramTree). start q 0 ≡ Some first) (sym same) c.in_ok-plain.ensures.start))
+
+pub returns-in-Some-clause-begun : goal.returns-in-Some-clause-begun
+returns-in-Some-clause-begun c =
+    let e = c.in_ok-explored.explored in
+    let p = searched e in
+    let k = course_of c.args.scope.keeps in
+    let most = c.args.scope.most in
+    let first = configuration_of c.in_ok-plain.plain in
+    let es = entries c.settle_and_keep.new.self in
+    let place = c.in-Some.field-0 in
+    let same = c.in_ok-explored.ensures.program ∙ c.in_ok-plain.ensures.program in
+    let starts : start p 0 ≡ Some first = subst (λ (q : ProgramTree). start q 0 ≡ Some first) (sym same) c.in_ok-plain.ensures.start in
+    let nothing : get_or (lists e) 0 [] ≡ [] = ap (λ (ws : List (List Item)). get_or ws 0 []) c.in_ok-explored.ensures.lists in
+    let leads : SettlesAt p k es 1 (get_or (lists e) 0 []) first place = subst (λ o. IfSome o (λ i. SettlesAt p k es 1 (get_or (lists e) 0 []) first i)) c.in-Some.is c.in_ok-settle_and_keep.ensures.leads in
+    let grows : Grows p k most (entries e) es = subst (λ o. IfSome o (λ _. Grows p k most (entries e) es)) c.in-Some.is c.in_ok-settle_and_keep.ensures.grows in
+    subst (λ (q : ProgramTree). IsSearchedTo q k (λ _. Unit {0}) es 0) (sym c.settle_and_keep.ensures.program)
+    (begun_at p k most es first place starts (subst (λ (w : List Item). SettlesAt p k es 1 w first place) nothing leads)
+    (subst (λ (xs : Entries). Grows p k most xs es) c.in_ok-explored.ensures.none grows))

@@ -22,4 +22,4 @@ returns-then-branch-clause-done c =
     let there : IsEntryAt es c.args.at next at = entry_is es c.args.at next at c.requires.exists c.next_name-next.ensures c.in_ok-plain.ensures.configuration in
     let not_it : IsPassedBy p q at = subst (λ (r : ProgramTree). IsPassedBy r q at) c.in_ok-plain.ensures.program (c.judge.ensures.neither c.in-Neither.is) in
     λ _. has_searched p states_only q.most (IsPassedOver p q) es (entries c.expand.new.self) c.args.at (entry next there.0 at) there.1 not_it (c.in_ok-expand.ensures.grows c.if-branch.true)
-    (c.in_ok-expand.ensures.tried c.if-branch.true (entry next there.0 at) there.1)
+    (c.in_ok-expand.ensures.expanded c.if-branch.true (entry next there.0 at) there.1)

@@ -1,0 +1,2 @@
+pub mod SameUnderNames
+pub mod OnlyAwaited

@@ -1,0 +1,3 @@
+-- Internal: what it does not.
+pub mod OtherNames
+pub mod Awaited
