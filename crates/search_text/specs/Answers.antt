@@ -17,7 +17,7 @@ use Rattle.search_text.specs.declared.answers.Found.TheVariants as O
 
 -- The answer for a program. It is a run from the start to where no label is possible, with the objects that wait there.
 -- Or it is a run after which objects are dead, with these objects, or a run that meets a run-time error.
--- Or no run leads to such a configuration, under any names of objects, and a closed list of configurations shows this.
+-- Or no run leads to such a configuration, under any names of objects, and a whole list of configurations shows this.
 -- Or nothing is known after this number of configurations.
 pub data Answers (names : List Text) (p : ProgramTree) (q : Query) (text : Text) (found : Found) : Type 0 where
   stuck : (ls : List Label) (run : LeadsTo p ls (IsWantedEnd p q)) → text ≡ stuck_text names ls (waiting_rows q.all p run.last) → found ≡ O.Shown → Answers names p q text found
