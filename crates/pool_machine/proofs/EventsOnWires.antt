@@ -151,8 +151,10 @@ module _ (u : Code) (l : Placement) (nodes nodes' : List NodeOf) (k k' : LinksOf
       ap (λ v. put pair_cmp (a, b) v (numbered_wires ws)) (ap kept_take (kept_numbered (a, b) ws) ∙ take_numbered (wire_of ws (a, b)))
       ∙ put_numbered (a, b) (kept_take (wire_of ws (a, b))) ws ∙ ap numbered_wires (sym e)
 
-  pub nothing_comes : R.Empty ≡ arrived_of (kept_coming (wire_of ws (a, b))) → IsDidOn (D.Line W.Idle) nodes k (Some ws) nodes k (Some ws) (moved_to (kept_coming (kept_at (numbered_wires ws) (a, b))))
-  nothing_comes h = subst (λ x. IsDidOn (D.Line W.Idle) nodes k (Some ws) nodes k (Some ws) (moved_to x)) (sym (comes Empty (coming_empty _ h))) (refl, refl)
+  pub nothing_comes : R.Empty ≡ arrived_of (kept_coming (wire_of ws (a, b))) → ws' ≡ ws → IsDidOn (D.Line W.Idle) nodes k (Some ws) nodes k (Some ws') (moved_to (kept_coming (kept_at (numbered_wires ws) (a, b))))
+  nothing_comes h e =
+      subst (λ x. IsDidOn (D.Line W.Idle) nodes k (Some ws) nodes k (Some ws') (moved_to x)) (sym (comes Empty (coming_empty _ h)))
+      (refl, ap (λ (z : LinkWires). machine_on nodes k.links (Some z)) e)
 
   pub stale_comes : (n : ℕ) → R.Stale n ≡ arrived_of (kept_coming (wire_of ws (a, b))) → ws' ≡ put pair_cmp (a, b) (kept_take (wire_of ws (a, b))) ws
       → IsDidOn (D.Line (W.Stale n)) nodes k (Some ws) nodes k (Some ws') (moved_to (kept_coming (kept_at (numbered_wires ws) (a, b))))
@@ -180,9 +182,11 @@ module _ (u : Code) (l : Placement) (nodes nodes' : List NodeOf) (k k' : LinksOf
     next_comes what d e = subst (IsDidOn (D.Line what) nodes k (Some ws) nodes' k' (Some ws')) (heads (numbered_wires ws') (taken e)) (line_wired nodes nodes' k k' ws ws' what _ d)
 
     pub next_waits : (kind : _) (node : ℕ) → IsDid (D.Full kind node) nodes k nodes' k' (move_in (coded u) l (machine_from nodes k.links) a b (map numbered (list_at pair_cmp (a, b) k.links)))
-        → IsDidOn (D.Full kind node) nodes k (Some ws) nodes' k' (Some ws) (moved_to (kept_coming (kept_at (numbered_wires ws) (a, b))))
-    next_waits kind node d =
-        subst (IsDidOn (D.Full kind node) nodes k (Some ws) nodes' k' (Some ws)) (heads _ refl) (full_wired nodes nodes' k k' ws _ kind node _ d)
+        → ws' ≡ ws
+        → IsDidOn (D.Full kind node) nodes k (Some ws) nodes' k' (Some ws') (moved_to (kept_coming (kept_at (numbered_wires ws) (a, b))))
+    next_waits kind node d e =
+        subst (λ z. IsDidOn (D.Full kind node) nodes k (Some ws) nodes' k' (Some z) (moved_to (kept_coming (kept_at (numbered_wires ws) (a, b))))) (sym e)
+        (subst (IsDidOn (D.Full kind node) nodes k (Some ws) nodes' k' (Some ws)) (heads _ refl) (full_wired nodes nodes' k k' ws _ kind node _ d))
 
   -- what else happens on the wire
   pub told_wired : (q : ℕ) (act : WireAct) (what : What) → LinkWireReports ws (a, b) (kept_act act (list_at pair_cmp (a, b) k.links) (wire_of ws (a, b))) what ws'

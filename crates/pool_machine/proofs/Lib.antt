@@ -3,9 +3,11 @@ pub mod PostedPackets
 pub mod ChangedNodes
 pub mod Searches
 pub mod ValuePackets
+pub mod InsideMesh
 pub mod TurnsOfNodes
 pub mod MovesOfHeads
 pub mod EventsOfMachines
+pub mod CountsOfMachines
 pub mod ReportedStandings
 pub mod StartOfMachines
 pub mod MadeNodes

@@ -1,5 +1,6 @@
 -- The configuration that a machine of code represents after an event, and the link of a packet that was posted in it.
 use Rattle.std.proofs.Common.{◌≡◌, ◌≢◌, refl, sym, ap, ap₂, subst, ◌∙◌, ℕ, ◌+◌, ◌*◌, ◌<◌, ◌≤◌, ◌==◌, List, [], ◌∷◌, ◌++◌, length, Option, Some, None, Bool, true, false, if◌then◌else◌, nat_lt, arith}
+use Rattle.std.specs.Prelude.{◌↔◌, Result, Ok, Err, IsErr, OnOk}
 use Rattle.run_types.specs.declared.types.Event.{Event}
 use Rattle.run_types.specs.declared.types.What.{What}
 use Rattle.run_types.specs.declared.types.FullKind.{FullKind}
@@ -140,3 +141,8 @@ module _ (u : Code) (l : Placement) (proper : IsProper u) (suits : Suits l u) (m
       placed : IsPlaced l z.config ((n, next l n (goal_node p.packet)), p.packet)
       placed = each_last (λ x. IsPlaced l z.config ((n, next l n (goal_node p.packet)), x)) (packets (list_at pair_cmp (n, next l n (goal_node p.packet)) base)) p.packet
           (subst (Each (λ x. IsPlaced l z.config ((n, next l n (goal_node p.packet)), x))) on (each_on (IsPlaced l z.config) z.delay.links (n, next l n (goal_node p.packet)) z.sound.state.packets))
+
+-- what is put where there is room is put
+pub was_put : {X Y : Type 0} {n m : ℕ} {P : Type 0} (r : Result X Y) → (IsErr r ↔ (n ≡ m)) → n < m → OnOk r P → P
+was_put (Ok x) full room put = put
+was_put (Err y) full room put = absurd (let e = full.0 refl in omega (arith, e, room))

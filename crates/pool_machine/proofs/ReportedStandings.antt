@@ -67,6 +67,10 @@ slot_found nodes o h = by (slice_get (map (λ (n : NodeOf). n.state) nodes) (nod
         let s = is_there (slice_get x.slots (slot_of o)) t in
         record { node = n.0; slot = s.0; node_is = n.1; slot_is = ap (λ (z : NodeState Placed). slice_get z.slots (slot_of o)) n.2 ∙ s.1 }
 
+-- its node is listed
+pub node_listed : (nodes : List NodeOf) (o : ℕ) → is_some (slot_in (slice_get (map (λ n. n.state) nodes) (node_of o)) (slot_of o)) ≡ true → node_of o < length nodes
+node_listed nodes o h = let f = slot_found nodes o h in slice_get_within nodes (node_of o) f.node f.node_is
+
 pub slot_is_at : (nodes : List NodeOf) (links : List (Pair × List Packet)) (o : ℕ) (f : Found nodes o) → slot_at (machine_from nodes links) o ≡ Some f.slot
 slot_is_at nodes links o f = ap (λ (z : Option (NodeState Placed)). slot_in z (slot_of o)) (state_there nodes (node_of o) f.node f.node_is) ∙ f.slot_is
 

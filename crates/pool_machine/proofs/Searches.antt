@@ -77,3 +77,13 @@ node_behind nodes i x h = by (slice_get nodes i) refl
     by : (z : Option NodeOf) → slice_get nodes i ≡ z → (n : NodeOf) × (slice_get nodes i ≡ Some n) × (n.state ≡ x)
     by None e = absurd (let a : None ≡ Some x = sym (ap (option_map (λ (n : NodeOf). n.state)) e) ∙ at in cc)
     by (Some n) e = (n, e, same_some (sym (ap (option_map (λ (n : NodeOf). n.state)) e) ∙ at))
+
+pub never_both : (b : Bool) → b ≡ true → b ≡ false → ⊥
+never_both true t f = cc
+never_both false t f = cc
+
+pub below_end : (i n end : ℕ) → i < n → n ≤ end → i < end
+below_end i n end within past = omega arith
+
+pub at_end : (i end : ℕ) → i ≤ end → end ≤ i → i ≡ end
+at_end i end within past = omega arith

@@ -1,5 +1,5 @@
 //! The machine.
-ghost use Rattle.std.specs.Prelude.{◌≡◌, ◌<◌, ◌≤◌, ◌-◌, ◌*◌, ◌^◌, is_some, IfOk};
+ghost use Rattle.std.specs.Prelude.{◌≡◌, ◌<◌, ◌≤◌, ◌-◌, ◌*◌, ◌^◌, [], is_some, IfOk};
 ghost use Rattle.std.specs.Option.{option_map};
 ghost use Rattle.std.specs.List.{list_any};
 ghost use Rattle.code_semantics.specs.Proper.{IsProper};
@@ -9,9 +9,11 @@ ghost use Rattle.mesh_semantics.specs.Delay.{Delay};
 ghost use Rattle.mesh_semantics.specs.Act.{act, is_quiet, object_count};
 ghost use Rattle.mesh_semantics.specs.Record.{last_place, root_node};
 ghost use Rattle.mesh_of_code.specs.Coded.{Placed, coded};
+ghost use Rattle.mesh_routing.specs.Links.{links_of};
 ghost use Rattle.pool_node.specs.Acts.{told_standing};
 ghost use Rattle.pool_machine.specs.AnswerOf.{answer_of, answer_seen};
 ghost use Rattle.pool_machine.specs.MachineInvariant.{AreEmpty};
+ghost use Rattle.pool_machine.specs.OnWires.{AreMade, wires_in};
 ghost use Rattle.pool_machine.specs.Answers.{IsOfMesh, IsOutcome, IsServed, IsStart, MachineRepresents, class_at, standing_at};
 
 use crate::counts::{moved_by, shown_by};
@@ -19,11 +21,10 @@ use crate::quiet::{is_quiet_now, quiet_after};
 use crate::report::{class_in, has_faulted, standing_in};
 use crate::step::step;
 use crate::types::{EventOutcome, Network, OpenFault, Outcome, Plan};
-use crate::wires::make_wires;
+use crate::wires::all_wires;
 use code_semantics::Unit;
 use mesh_routing::{Links, Mesh};
 use pool_node::{Node, StepOutput};
-use rendezvous_protocol::Packet;
 use run_types::{Event, Line, NameId, Place, Placement, Standing};
 use std::alloc::{AllocError, Global};
 use std::marker::Model;
@@ -78,6 +79,26 @@ fn all_nodes(alloc: Global, unit: &Unit, placement: &Placement) -> Result<Vec<No
     Ok(nodes)
 }
 
+/// Makes the links of a mesh without packets, and if `lossy` is true a wire for each. An error means out of memory.
+fn empty_network(alloc: Global, mesh: &Mesh, cells: u32, lossy: bool) -> Result<Network, AllocError>
+    ensures links { IfOk result (λ n. n.links ≡ links_of mesh.now.width mesh.now.height cells []) }
+    ensures wires { IfOk result (λ n. AreMade mesh.now.width (mesh.now.width * mesh.now.height) lossy (wires_in n.wires)) }
+{
+    let Ok(links) = Links::make(alloc, mesh, cells) else {
+        return Err(AllocError);
+    };
+    if !lossy {
+        return Ok(Network { links, wires: None });
+    }
+    let Ok(wires) = all_wires(alloc, mesh) else {
+        return Err(AllocError);
+    };
+    Ok(Network {
+        links,
+        wires: Some(wires),
+    })
+}
+
 /// The node of this place, or node 0 if the place has no node.
 fn node_of_place(place: &Place) -> u32
     ensures { result ≡ root_node (Some place.now) }
@@ -95,23 +116,6 @@ fn root_of(places: &[Place]) -> u32
     match places.last() {
         Some(place) => node_of_place(place),
         None => 0,
-    }
-}
-
-/// The outcome of an event and its output buffer, as one value.
-fn outcome_told(told: EventOutcome, event: Event, room: &StepOutput) -> Outcome
-    ensures { answer_seen result ≡ answer_of told event room.now.what }
-{
-    match told {
-        EventOutcome::Line { number } => {
-            let what = room.what;
-            Outcome::Line(Line::Event {
-                number,
-                event,
-                what,
-            })
-        }
-        EventOutcome::Full { kind, node } => Outcome::Full { kind, node },
     }
 }
 
@@ -149,18 +153,16 @@ impl<'a> Machine<'a> {
     {
         let placement = table.placement();
         let mesh = Mesh::make(placement.width, placement.height);
-        let Ok(mut nodes) = all_nodes(alloc, unit, placement) else {
-            return Err(OpenFault::Memory);
+        let mut nodes = match all_nodes(alloc, unit, placement) {
+            Ok(nodes) => nodes,
+            Err(_) => return Err(OpenFault::Memory),
         };
-        let Ok(links) = Links::make(alloc, &mesh, placement.cells) else {
-            return Err(OpenFault::Memory);
-        };
-        let Ok(wires) = make_wires(alloc, &mesh, lossy) else {
-            return Err(OpenFault::Memory);
+        let network = match empty_network(alloc, &mesh, placement.cells, lossy) {
+            Ok(network) => network,
+            Err(_) => return Err(OpenFault::Memory),
         };
         let root = root_of(placement.places.items());
         nodes[root as usize].start_root(unit);
-        let network = Network { links, wires };
         let quiet = is_quiet_now(unit, nodes.as_slice(), &network);
         let plan = Plan {
             unit,
@@ -189,8 +191,17 @@ impl<'a> Machine<'a> {
             → IsOutcome event self.old (answer_seen result) self.new (act (coded self.old.unit) self.old.placement quantum c d event) }
     {
         let mut room = StepOutput::make();
-        let told = self.event_into(event, quantum, &mut room);
-        outcome_told(told, event, &room)
+        match self.event_into(event, quantum, &mut room) {
+            EventOutcome::Line { number } => {
+                let what = room.what;
+                Outcome::Line(Line::Event {
+                    number,
+                    event,
+                    what,
+                })
+            }
+            EventOutcome::Full { kind, node } => Outcome::Full { kind, node },
+        }
     }
 
     /// Makes an event: a turn of a node, a move of the head of a link, or another event on a wire. A turn makes up to

@@ -12,7 +12,7 @@ ghost use Rattle.pool_machine.specs.OnWires.{IsDidOn, has_wire, machine_on};
 
 use crate::moves::move_link;
 use crate::types::{Limit, Plan};
-use crate::wires::{Wires, arrive_at, peek_at};
+use crate::wires::Wires;
 use mesh_routing::Links;
 use pool_node::{Node, StepOutput};
 use rendezvous_protocol::Packet;
@@ -40,20 +40,23 @@ pub(crate) fn move_on_wire(
     ensures counts { map (λ n. n.state.made) nodes.new ≡ map (λ n. n.state.made) nodes.old }
     ensures there { (k : Pair) → has_wire wires.old.entries k ≡ true → has_wire wires.new.entries k ≡ true }
 {
-    match peek_at(wires, link.from, link.to) {
+    let Some(wire) = wires.get_mut(&(link.from, link.to)) else {
+        unreachable!();
+    };
+    match wire.peek() {
         Arrived::Empty => {
             room.what = What::Idle;
             Ok(())
         }
         Arrived::Stale { number } => {
-            arrive_at(wires, link.from, link.to);
+            let _ = wire.arrive();
             room.what = What::Stale { number };
             Ok(())
         }
         Arrived::Next { .. } => {
             match move_link(plan, nodes, links, link, room) {
                 Ok(()) => {
-                    arrive_at(wires, link.from, link.to);
+                    let _ = wire.arrive();
                     Ok(())
                 }
                 Err(limit) => Err(limit),

@@ -3,22 +3,21 @@ ghost use Rattle.std.specs.Prelude.{◌≡◌, ◌<◌, ◌≤◌, ◌+◌, ◌-
 ghost use Rattle.std.specs.BTreeMap.{IsOrdered, values};
 ghost use Rattle.std.specs.List.{list_all};
 ghost use Rattle.std.specs.Option.{option_map};
-ghost use Rattle.std.specs.FinMap.{put};
 ghost use Rattle.run_types.specs.Tables.{list_at, pair_cmp};
-ghost use Rattle.mesh_semantics.specs.KeptWire.{fresh_in, kept_act, kept_coming, kept_take};
+ghost use Rattle.mesh_semantics.specs.KeptWire.{fresh_in, kept_act};
 ghost use Rattle.run_types.specs.declared.types.WireAct.TheVariants as A;
 ghost use Rattle.node_semantics.specs.Machine.{are_acknowledged};
 ghost use Rattle.mesh_routing.specs.Links.{IsLinkOf};
-ghost use Rattle.wire_link.specs.Wires.{arrived_of, late_of, lose_of, twice_of};
+ghost use Rattle.wire_link.specs.Wires.{late_of, lose_of, twice_of};
 ghost use Rattle.pool_machine.specs.MachineOf.{numbered_wires};
-ghost use Rattle.pool_machine.specs.OnWires.{AreMade, AreNew, WireReports, LinkWireReports, entered_at, has_wire, is_done, wire_of, wires_in};
+ghost use Rattle.pool_machine.specs.OnWires.{AreNew, WireReports, LinkWireReports, entered_at, has_wire, is_done, wire_of, wires_in};
 
 use mesh_routing::{Links, Mesh};
 use rendezvous_protocol::Packet;
 use run_types::{What, WireAct};
 use std::alloc::{AllocError, Global};
 use std::collections::BTreeMap;
-use wire_link::{Arrived, Sent, Side, Wire};
+use wire_link::{Sent, Side, Wire};
 
 /// The wires by the ends of their links.
 pub(crate) type Wires = BTreeMap<(u32, u32), Wire>;
@@ -38,29 +37,16 @@ fn add_wires(wires: &mut Wires, mesh: &Mesh, from: u32) -> Result<(), AllocError
 }
 
 /// Makes a wire for each link of a mesh.
-fn all_wires(alloc: Global, mesh: &Mesh) -> Result<Wires, AllocError>
+pub(crate) fn all_wires(alloc: Global, mesh: &Mesh) -> Result<Wires, AllocError>
     ensures { IfOk result (λ ws. AreNew mesh.now.width (mesh.now.width * mesh.now.height) (mesh.now.width * mesh.now.height) 0 ws.entries) }
 {
     let mut wires = BTreeMap::new(alloc);
     for from in 0..mesh.width * mesh.height {
-        add_wires(&mut wires, mesh, from)?;
+        let Ok(()) = add_wires(&mut wires, mesh, from) else {
+            return Err(AllocError);
+        };
     }
     Ok(wires)
-}
-
-/// Makes a wire for each link of a mesh if `lossy` is true, and else none.
-pub(crate) fn make_wires(
-    alloc: Global,
-    mesh: &Mesh,
-    lossy: bool,
-) -> Result<Option<Wires>, AllocError>
-    ensures { IfOk result (λ ws. AreMade mesh.now.width (mesh.now.width * mesh.now.height) lossy (wires_in ws)) }
-{
-    if lossy {
-        Ok(Some(all_wires(alloc, mesh)?))
-    } else {
-        Ok(None)
-    }
 }
 
 /// Reports whether on each wire every packet that was handed out is acknowledged.
@@ -83,26 +69,6 @@ pub(crate) fn is_acknowledged(wires: &Option<Wires>) -> bool
     match wires {
         Some(wires) => all_acknowledged(wires),
         None => true,
-    }
-}
-
-/// The next arrival at the far end of a link.
-pub(crate) fn peek_at(wires: &Wires, from: u32, to: u32) -> Arrived
-    ensures { result ≡ arrived_of (kept_coming (wire_of wires.now.entries (from, to))) }
-{
-    match wires.get(&(from, to)) {
-        Some(wire) => wire.peek(),
-        None => Arrived::Empty,
-    }
-}
-
-/// The first data frame comes to the far end of a link.
-pub(crate) fn arrive_at(wires: &mut Wires, from: u32, to: u32)
-    requires there { has_wire wires.old.entries (from, to) ≡ true }
-    ensures { wires.new.entries ≡ put pair_cmp (from, to) (kept_take (wire_of wires.old.entries (from, to))) wires.old.entries }
-{
-    if let Some(wire) = wires.get_mut(&(from, to)) {
-        let _ = wire.arrive();
     }
 }
 

@@ -1,8 +1,8 @@
-use Rattle.std.proofs.Common.{sym, ◌∙◌}
+use Rattle.std.proofs.Common.{◌<◌, length, subst, sym, ◌∙◌}
 use Rattle.std.proofs.lemmas.Option.{slice_get_within}
 use Rattle.pool_node.specs.Acts.{told_standing}
 use Rattle.run_types.specs.ObjectNames.{node_of, slot_of}
-use Rattle.pool_machine.proofs.ReportedStandings.{Found, due_told, found_at, none_on_mesh, on_way, slot_found, slot_told}
+use Rattle.pool_machine.proofs.ReportedStandings.{Found, due_told, found_at, node_listed, none_on_mesh, on_way, slot_found, slot_told}
 use Rattle.pool_machine.proofs.report.standing_in.Goals as goal
 
 pub returns-then-is_on_way : goal.returns-then-is_on_way
@@ -30,3 +30,12 @@ returns c =
     slot_told c.args.unit.now c.args.placement.now c.args.nodes.now c.args.links.now c.args.name f c.requires.kept.parts (told_standing c.standing.result)
     (none_on_mesh c.args.unit.now c.args.placement.now c.args.nodes.now c.args.links.now c.requires.kept c.args.name c.args.mesh.now.width c.args.mesh.now.height c.requires.mesh.width c.requires.mesh.height (c.is_on_way.ensures.no c.if-is_on_way.false))
     (λ s e. c.standing.ensures s (rw c.slot_of.ensures.slot e))
+
+pub bounds-nodes-node : goal.bounds-nodes-node
+bounds-nodes-node c = subst (λ n. n < length c.args.nodes.now) (sym c.node_of-node.ensures.node) (node_listed c.args.nodes.now c.args.name (sym c.has_object.ensures ∙ c.if-not-has_object.false))
+
+pub is_on_way-requires : goal.is_on_way-requires
+is_on_way-requires c = record {
+  width = c.requires.mesh.width ∙ sym c.requires.kept.parts.width;
+  height = c.requires.mesh.height ∙ sym c.requires.kept.parts.height;
+}

@@ -1,47 +1,94 @@
-use Rattle.std.proofs.Common.{◌∙◌, sym}
+use Rattle.std.proofs.Common.{◌≡◌, ◌∙◌, refl, sym, ap, Some}
+use Rattle.std.specs.Option.{option_copied_mut}
+use Rattle.std.specs.Map.{lookup}
+use Rattle.std.specs.BTreeMap.{is_at}
 use Rattle.mesh_semantics.specs.KeptWire.{kept_take}
-use Rattle.pool_machine.specs.OnWires.{wire_of}
+use Rattle.run_types.specs.Tables.{Pair, pair_cmp}
+use Rattle.wire_link.specs.declared.wire.Arrived.TheVariants as R
+use Rattle.pool_machine.specs.MachineOf.{LinkWires}
+use Rattle.pool_machine.specs.OnWires.{has_wire, wire_of}
 use Rattle.pool_machine.proofs.EventsOnWires.{next_comes, next_waits, nothing_comes, stale_comes, wire_stays}
+use Rattle.pool_machine.proofs.WireMap.{never_lost, same_at, taken_at, told_of}
 use Rattle.pool_machine.proofs.wired.move_on_wire.Goals as goal
 
-pub returns-in-Empty-clause-act : goal.returns-in-Empty-clause-act
-returns-in-Empty-clause-act c =
-    let nodes = c.args.nodes.now in
-    let links = c.args.links.now in
-    let wires = c.args.wires.now.entries in
-    nothing_comes c.args.plan.now.unit.now c.args.plan.now.placement.now nodes nodes links links wires wires c.args.link.from c.args.link.to (sym c.in-Empty.is ∙ c.peek_at.ensures)
+pub unreachable-requires : goal.unreachable-requires
+unreachable-requires c =
+    never_lost c.args.wires.now.entries (c.args.link.from, c.args.link.to) c.requires.there (sym c.get_mut.ensures.value ∙ ap option_copied_mut c.in_default.is)
 
-pub returns-in-Stale-clause-act : goal.returns-in-Stale-clause-act
-returns-in-Stale-clause-act c =
-    let nodes = c.args.nodes.now in
-    let links = c.args.links.now in
-    stale_comes c.args.plan.now.unit.now c.args.plan.now.placement.now nodes nodes links links c.args.wires.now.entries c.arrive_at.new.wires.entries c.args.link.from c.args.link.to
-    c.in-Stale.number (sym c.in-Stale.is ∙ c.peek_at.ensures) c.arrive_at.ensures
+pub returns-in-Empty : goal.returns-in-Empty
+returns-in-Empty c = record {
+  act = let es : LinkWires = c.args.wires.now.entries in
+      let k : Pair = (c.args.link.from, c.args.link.to) in
+      let v = c.in-Some.wire.now in
+      let h : lookup (is_at (pair_cmp k)) es ≡ Some v = sym c.get_mut.ensures.value ∙ ap option_copied_mut c.in-Some.is in
+      nothing_comes c.args.plan.now.unit.now c.args.plan.now.placement.now c.args.nodes.now c.args.nodes.now c.args.links.now c.args.links.now es (c.get_mut.follows.lender v).entries c.args.link.from c.args.link.to (told_of es k v h R.Empty (sym c.in-Empty.is ∙ c.peek.ensures)) (same_at es k v h v (c.get_mut.follows.lender v).entries (c.get_mut.follows.holds v).0 refl);
+  there = λ j t.
+      let es : LinkWires = c.args.wires.now.entries in
+      let k : Pair = (c.args.link.from, c.args.link.to) in
+      let v = c.in-Some.wire.now in
+      let h : lookup (is_at (pair_cmp k)) es ≡ Some v = sym c.get_mut.ensures.value ∙ ap option_copied_mut c.in-Some.is in
+      ap (λ z. has_wire z j) (same_at es k v h v (c.get_mut.follows.lender v).entries (c.get_mut.follows.holds v).0 refl) ∙ t;
+  parts = c.requires.kept.parts;
+  counts = refl;
+}
 
-pub returns-in-Stale-clause-there : goal.returns-in-Stale-clause-there
-returns-in-Stale-clause-there c = λ k h.
-    wire_stays (c.args.link.from, c.args.link.to) k (kept_take (wire_of c.args.wires.now.entries (c.args.link.from, c.args.link.to))) c.args.wires.now.entries c.arrive_at.new.wires.entries c.arrive_at.ensures h
+pub returns-in-Stale : goal.returns-in-Stale
+returns-in-Stale c = record {
+  act = let es : LinkWires = c.args.wires.now.entries in
+      let k : Pair = (c.args.link.from, c.args.link.to) in
+      let v = c.in-Some.wire.now in
+      let h : lookup (is_at (pair_cmp k)) es ≡ Some v = sym c.get_mut.ensures.value ∙ ap option_copied_mut c.in-Some.is in
+      stale_comes c.args.plan.now.unit.now c.args.plan.now.placement.now c.args.nodes.now c.args.nodes.now c.args.links.now c.args.links.now es (c.get_mut.follows.lender c.arrive.new.self).entries c.args.link.from c.args.link.to
+      c.in-Stale.number (told_of es k v h (R.Stale c.in-Stale.number) (sym c.in-Stale.is ∙ c.peek.ensures)) (taken_at es k v h c.get_mut.ensures.ordered c.arrive.new.self (c.get_mut.follows.lender c.arrive.new.self).entries (c.get_mut.follows.holds c.arrive.new.self).0 c.arrive.ensures.change);
+  there = λ j t.
+      let es : LinkWires = c.args.wires.now.entries in
+      let k : Pair = (c.args.link.from, c.args.link.to) in
+      let v = c.in-Some.wire.now in
+      let h : lookup (is_at (pair_cmp k)) es ≡ Some v = sym c.get_mut.ensures.value ∙ ap option_copied_mut c.in-Some.is in
+      wire_stays k j (kept_take (wire_of es k)) es (c.get_mut.follows.lender c.arrive.new.self).entries (taken_at es k v h c.get_mut.ensures.ordered c.arrive.new.self (c.get_mut.follows.lender c.arrive.new.self).entries (c.get_mut.follows.holds c.arrive.new.self).0 c.arrive.ensures.change) t;
+  parts = c.requires.kept.parts;
+  counts = refl;
+}
 
-pub returns-in-Ok-clause-act : goal.returns-in-Ok-clause-act
-returns-in-Ok-clause-act c =
-    let u = c.args.plan.now.unit.now in
-    let l = c.args.plan.now.placement.now in
-    let nodes = c.args.nodes.now in
-    let links = c.args.links.now in
-    let wires = c.args.wires.now.entries in
-    next_comes u l nodes c.move_link.new.nodes links c.move_link.new.links wires c.arrive_at-in-Ok.new.wires.entries c.args.link.from c.args.link.to
-    c.in-Next.packet (sym c.in-Next.is ∙ c.peek_at.ensures) c.move_link.new.room.what c.in-Ok.ensures.act c.arrive_at-in-Ok.ensures
+pub returns-in-Ok : goal.returns-in-Ok
+returns-in-Ok c = record {
+  act = let es : LinkWires = c.args.wires.now.entries in
+      let k : Pair = (c.args.link.from, c.args.link.to) in
+      let v = c.in-Some.wire.now in
+      let h : lookup (is_at (pair_cmp k)) es ≡ Some v = sym c.get_mut.ensures.value ∙ ap option_copied_mut c.in-Some.is in
+      next_comes c.args.plan.now.unit.now c.args.plan.now.placement.now c.args.nodes.now c.move_link.new.nodes c.args.links.now c.move_link.new.links es (c.get_mut.follows.lender c.arrive-in-Ok.new.self).entries c.args.link.from c.args.link.to
+      c.in-Next.packet (told_of es k v h (R.Next c.in-Next.packet) (sym c.in-Next.is ∙ c.peek.ensures)) c.move_link.new.room.what c.in-Ok.ensures.act (taken_at es k v h c.get_mut.ensures.ordered c.arrive-in-Ok.new.self (c.get_mut.follows.lender c.arrive-in-Ok.new.self).entries (c.get_mut.follows.holds c.arrive-in-Ok.new.self).0 c.arrive-in-Ok.ensures.change);
+  there = λ j t.
+      let es : LinkWires = c.args.wires.now.entries in
+      let k : Pair = (c.args.link.from, c.args.link.to) in
+      let v = c.in-Some.wire.now in
+      let h : lookup (is_at (pair_cmp k)) es ≡ Some v = sym c.get_mut.ensures.value ∙ ap option_copied_mut c.in-Some.is in
+      wire_stays k j (kept_take (wire_of es k)) es (c.get_mut.follows.lender c.arrive-in-Ok.new.self).entries (taken_at es k v h c.get_mut.ensures.ordered c.arrive-in-Ok.new.self (c.get_mut.follows.lender c.arrive-in-Ok.new.self).entries (c.get_mut.follows.holds c.arrive-in-Ok.new.self).0 c.arrive-in-Ok.ensures.change) t;
+  parts = c.in-Ok.ensures.parts;
+  counts = c.in-Ok.ensures.counts;
+}
 
-pub returns-in-Ok-clause-there : goal.returns-in-Ok-clause-there
-returns-in-Ok-clause-there c = λ k h.
-    wire_stays (c.args.link.from, c.args.link.to) k (kept_take (wire_of c.args.wires.now.entries (c.args.link.from, c.args.link.to))) c.args.wires.now.entries c.arrive_at-in-Ok.new.wires.entries c.arrive_at-in-Ok.ensures h
+pub returns-in-Err : goal.returns-in-Err
+returns-in-Err c = record {
+  act = let es : LinkWires = c.args.wires.now.entries in
+      let k : Pair = (c.args.link.from, c.args.link.to) in
+      let v = c.in-Some.wire.now in
+      let h : lookup (is_at (pair_cmp k)) es ≡ Some v = sym c.get_mut.ensures.value ∙ ap option_copied_mut c.in-Some.is in
+      next_waits c.args.plan.now.unit.now c.args.plan.now.placement.now c.args.nodes.now c.move_link.new.nodes c.args.links.now c.move_link.new.links es (c.get_mut.follows.lender v).entries c.args.link.from c.args.link.to
+      c.in-Next.packet (told_of es k v h (R.Next c.in-Next.packet) (sym c.in-Next.is ∙ c.peek.ensures)) c.in-Err.limit.kind c.in-Err.limit.node c.in-Err.ensures.act (same_at es k v h v (c.get_mut.follows.lender v).entries (c.get_mut.follows.holds v).0 refl);
+  there = λ j t.
+      let es : LinkWires = c.args.wires.now.entries in
+      let k : Pair = (c.args.link.from, c.args.link.to) in
+      let v = c.in-Some.wire.now in
+      let h : lookup (is_at (pair_cmp k)) es ≡ Some v = sym c.get_mut.ensures.value ∙ ap option_copied_mut c.in-Some.is in
+      ap (λ z. has_wire z j) (same_at es k v h v (c.get_mut.follows.lender v).entries (c.get_mut.follows.holds v).0 refl) ∙ t;
+  parts = c.in-Err.ensures.parts;
+  counts = c.in-Err.ensures.counts;
+}
 
-pub returns-in-Err-clause-act : goal.returns-in-Err-clause-act
-returns-in-Err-clause-act c =
-    let u = c.args.plan.now.unit.now in
-    let l = c.args.plan.now.placement.now in
-    let nodes = c.args.nodes.now in
-    let links = c.args.links.now in
-    let wires = c.args.wires.now.entries in
-    next_waits u l nodes c.move_link.new.nodes links c.move_link.new.links wires wires c.args.link.from c.args.link.to
-    c.in-Next.packet (sym c.in-Next.is ∙ c.peek_at.ensures) c.in-Err.limit.kind c.in-Err.limit.node c.in-Err.ensures.act
+pub move_link-requires : goal.move_link-requires
+move_link-requires c = record {
+  kept = c.requires.kept;
+  table = c.requires.table;
+  link = c.requires.link;
+}

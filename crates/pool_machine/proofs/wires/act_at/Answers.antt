@@ -1,4 +1,4 @@
-use Rattle.std.proofs.Common.{◌≡◌, ◌∙◌, sym, ap, subst, Some}
+use Rattle.std.proofs.Common.{◌≡◌, ◌∙◌, ◌+◌, ◌<◌, ◌≤◌, length, sym, ap, subst, Some}
 use Rattle.std.specs.Option.{option_copied_mut}
 use Rattle.std.specs.Map.{lookup}
 use Rattle.std.specs.BTreeMap.{is_at}
@@ -7,8 +7,23 @@ use Rattle.run_types.specs.Tables.{Pair, list_at, pair_cmp}
 use Rattle.rendezvous_protocol.specs.declared.packet.Packet.{Packet}
 use Rattle.pool_machine.specs.MachineOf.{LinkWires}
 use Rattle.pool_machine.specs.OnWires.{LinkWireReports}
-use Rattle.pool_machine.proofs.WireMap.{told_at, wire_found}
+use Rattle.pool_machine.proofs.WireMap.{never_lost, told_at, wire_found}
 use Rattle.pool_machine.proofs.wires.act_at.Goals as goal
+
+pub act_on-requires : goal.act_on-requires
+act_on-requires c =
+    let es : LinkWires = c.args.wires.now.entries in
+    let k : Pair = (c.args.from, c.args.to) in
+    let found = wire_found es k c.in-Some.wire.now (sym c.get_mut.ensures.value ∙ ap option_copied_mut c.in-Some.is) in
+    record {
+      link = c.requires.link;
+      handed = subst (λ (v : KeptWire Packet). v.handed ≤ v.sent) found c.requires.handed;
+      sent = subst (λ (v : KeptWire Packet). v.sent ≤ v.handed + length (list_at pair_cmp k c.args.links.now.links)) found c.requires.sent;
+      few = subst (λ (v : KeptWire Packet). v.handed + length (list_at pair_cmp k c.args.links.now.links) < 4294967295) found c.requires.few;
+    }
+
+pub returns-in-None : goal.returns-in-None
+returns-in-None c = absurd (never_lost c.args.wires.now.entries (c.args.from, c.args.to) c.requires.there (sym c.get_mut.ensures.value ∙ ap option_copied_mut c.in-None.is))
 
 pub returns-in-Some : goal.returns-in-Some
 returns-in-Some c =
