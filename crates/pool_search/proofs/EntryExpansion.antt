@@ -1,5 +1,5 @@
 -- What the visit of one entry adds to the progress of a search.
-use Rattle.std.proofs.Common.{◌≡◌, ◌≤◌, ◌<◌, inl, inr, refl, sym, ap, ◌∙◌, subst, cond, ℕ, zero, suc, List, [], ◌∷◌, ◌++◌, length, Option, Some, None, Bool, true, false, arith, length-append}
+use Rattle.std.proofs.Common.{◌≡◌, ◌≤◌, ◌<◌, inl, refl, sym, ap, ◌∙◌, subst, cond, ℕ, zero, suc, List, [], ◌∷◌, ◌++◌, length, get_or, Option, Some, None, Bool, true, false, arith, length-append}
 use Rattle.std.specs.Prelude.{IfSome}
 use Rattle.std.specs.List.{filter, slice_get}
 use Rattle.std.proofs.lemmas.Option.{slice_get_within}
@@ -13,12 +13,13 @@ use Rattle.reachability.specs.Search.{IsInOrder, after}
 use Rattle.reachability.specs.Labels.{labels_to_try}
 use Rattle.search_laws.specs.Outcomes.{Passed}
 use Rattle.search_laws.specs.Stubborn.{IsAwaited, is_served}
-use Rattle.search_laws.specs.Tried.{Course, AllLeadInto, Follows, IsExpanded, IsLabelTried, LeadsAt, LeadsInto, Every, Those}
+use Rattle.search_laws.specs.Tried.{Course, KeepsNothing, AllLeadInto, Follows, IsExpanded, IsLabelTried, LeadsAt, LeadsInto, Every, Those}
 use Rattle.pool_search.specs.Entries.{IsEntryAt}
 use Rattle.pool_search.specs.VisitedConfigurations.{entry}
-use Rattle.pool_search.specs.Progress.{Entries, Grows, HasSearched, IsReachedWith, IsSearchedTo}
-use Rattle.pool_search.specs.Trials.{is_asked, OneLeadsOn, SettlesAt}
-use Rattle.pool_search.proofs.ListGrowth.{each_more, entry_grown, in_at, labels_grown, led_grown}
+use Rattle.pool_search.specs.Progress.{Entries, AllReached, Grows, HasSearched, IsReachedWith, IsSearchedTo}
+use Rattle.pool_search.specs.Trials.{is_asked, IsLedTo, OneLeadsOn, SettlesAt}
+use Rattle.pool_search.proofs.ListGrowth.{each_at, each_more, entry_grown, in_at, labels_grown, led_grown}
+use Rattle.pool_search.proofs.RunExtension.{reached_more, reached_on}
 use Rattle.pool_search.proofs.SearchComplete.{searched_grows, searched_next}
 
 -- an entry from its parts
@@ -163,3 +164,28 @@ module _ (p : ProgramTree) (k : Course) where
 
       inside : at ≤ length es
       inside = let h = within in omega arith
+
+-- what is written after a label of an entry
+pub items_after : (es : Entries) (at : ℕ) (e : Passed) (old new : List (List Item)) (before written : ℕ) (more : List Item) → slice_get es at ≡ Some e
+    → IfSome (slice_get es at) (λ x. get_or old before [] ≡ x.items) → get_or new written [] ≡ get_or old before [] ++ more → get_or new written [] ≡ e.items ++ more
+items_after es at e old new before written more there list is =
+    let kept : get_or old before [] ≡ e.items = subst (λ o. IfSome o (λ x. get_or old before [] ≡ x.items)) there list in
+    is ∙ ap (λ v. v ++ more) kept
+
+module _ (p : ProgramTree) (k : Course) where
+  -- a label that is known to lead to an entry
+  pub led_known : (es : Entries) (n m : ℕ) (v : List Item) (e : Passed) (l : Label) (place : ℕ) (to : Configuration) → e.next ≡ n → IsLedTo p k e.configuration l to
+      → slice_get es place ≡ Some (entry m v to) → m ≡ after n l → v ≡ e.items ++ k.keeps l → LeadsAt p k es e.next e.items e.configuration l place
+  led_known es n m v e l place to is led there named kept =
+      let settled : SettlesAt p k es m v led.next place = record { to = to; follows = led.follows; there = there } in
+      led_at p k es e.next m e.items v e.configuration led.next l place led.step settled (named ∙ ap (λ x. after x l) (sym is)) kept
+
+  -- a list that grew by the configuration where a label of an entry leads
+  pub grown_known : KeepsNothing k → (most : ℕ) (es fs : Entries) (at m : ℕ) (v : List Item) (e : Passed) (l : Label) (to : Configuration) → AllReached p k es → slice_get es at ≡ Some e
+      → IsLedTo p k e.configuration l to → IsInOrder to → v ≡ e.items ++ k.keeps l → fs ≡ es ++ entry m v to ∷ [] → length es < most → Grows p k most es fs
+  grown_known nothing most es fs at m v e l to reached there led sorted kept grown few =
+      let here : IsReachedWith p k e.items e.configuration = each_at (λ (x : Passed). IsReachedWith p k x.items x.configuration) es at e reached there in
+      let next : IsReachedWith p k v led.next =
+      subst (λ (w : List Item). IsReachedWith p k w led.next) (sym kept) (reached_more p k e.items e.configuration led.next l here led.step) in
+      let last : IsReachedWith p k v to = reached_on p k nothing v led.next to next led.follows in
+      subst (Grows p k most es) (sym grown) (grows_by_one p k most es m v to sorted last few)

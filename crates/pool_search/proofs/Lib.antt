@@ -13,3 +13,4 @@ pub mod FoundLists
 pub mod OutcomesComplete
 pub mod ConfigurationClass
 pub mod WaiterLaws
+pub mod KnownLeads

@@ -9,7 +9,8 @@ use Rattle.run_types.specs.Tables.{Pair}
 use Rattle.pool_relation.specs.Action.{Object}
 use Rattle.pool_relation.specs.Configuration.{Configuration}
 use Rattle.pool_search.specs.declared.numbered.Numbered.{Numbered}
-use Rattle.pool_search.specs.Numbers.{objects_from, queue_messages, passed}
+use Rattle.object_moves.specs.Rows.{objects_from}
+use Rattle.pool_search.specs.Numbers.{queue_messages, passed}
 
 abbrev made_of : List (ℕ × Object) → List (Pair × List Message) → Configuration
 made_of os ms = record { objects = os; messages = ms }

@@ -19,10 +19,11 @@ use Rattle.stepper_objects.specs.ObjectStates.{thing_object, things}
 use Rattle.pool_semantics.specs.declared.plain.mail.Mail.{Mail}
 use Rattle.pool_semantics.specs.Mails.{message_of, posts, queued}
 use Rattle.pool_search.specs.declared.numbered.Queue.{Queue}
-use Rattle.pool_search.specs.Numbers.{no_object, objects_from, queue_messages}
+use Rattle.object_moves.specs.Rows.{no_object, objects_from}
+use Rattle.pool_search.specs.Numbers.{queue_messages}
 use Rattle.pool_search.proofs.SortedMaps.{inserted, inserted_last}
 use Rattle.pool_search.proofs.ObjectNumbers.{objects_push, objects_rise}
-use Rattle.pool_search.proofs.StateTableGrowth.{front_of_front, objects_still, within_still}
+use Rattle.object_moves.proofs.Laws.{front_of_front, objects_still, within_still}
 
 -- one more object is numbered; the table grew from xs to ys
 pub numbers_step : (ts xs ys : List Object) (ns : List ℕ) (n k : ℕ) (t : ObjectState) (es fs : List (ℕ × ObjectState)) (all : List (ℕ × Object))

@@ -4,7 +4,8 @@ use Rattle.std.specs.Ordering.{nat_cmp, is_lt}
 use Rattle.std.specs.FinMap.Entries.{is_sorted, below_all}
 use Rattle.run_types.proofs.Laws.{both}
 use Rattle.pool_relation.specs.Action.{Object}
-use Rattle.pool_search.specs.Numbers.{no_object, objects_from, AreNamedFrom}
+use Rattle.object_moves.specs.Rows.{no_object, objects_from}
+use Rattle.pool_search.specs.Numbers.{AreNamedFrom}
 
 -- one more number
 pub objects_push : (o : ℕ) (xs : List Object) (ns : List ℕ) (n : ℕ) → objects_from o xs (ns ++ n ∷ []) ≡ objects_from o xs ns ++ (o + length ns, get_or xs n no_object) ∷ []

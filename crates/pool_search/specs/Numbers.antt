@@ -1,9 +1,8 @@
 -- Which configuration of the transition relation a numbered configuration represents, given the table of object states,
 -- and what was written, given the lists of items.
-use Rattle.std.specs.Prelude.{◌≡◌, ◌<◌, ℕ, suc, List, [], ◌∷◌, map, length, get_or, slice_index_or, None, IsTrue}
-use Rattle.std.specs.List.{All}
+use Rattle.std.specs.Prelude.{◌≡◌, ◌<◌, ℕ, suc, List, [], ◌∷◌, map, length, get_or, IsTrue}
 use Rattle.std.specs.FinMap.Entries.{is_sorted}
-use Rattle.pool_syntax.specs.Terms.{ProgramTree, Done}
+use Rattle.pool_syntax.specs.Terms.{ProgramTree}
 use Rattle.run_types.specs.declared.types.Item.{Item}
 use Rattle.run_types.specs.Message.{Message}
 use Rattle.run_types.specs.Tables.{Pair, pair_cmp}
@@ -12,17 +11,9 @@ use Rattle.pool_relation.specs.Configuration.{Configuration}
 use Rattle.pool_semantics.specs.Mails.{message_of}
 use Rattle.pool_semantics.specs.Sound.{Sound}
 use Rattle.search_laws.specs.Outcomes.{Passed}
+use Rattle.object_moves.specs.Rows.{objects_from, AreWithin}
 use Rattle.pool_search.specs.declared.numbered.Queue.{Queue}
 use Rattle.pool_search.specs.declared.numbered.Numbered.{Numbered}
-
--- the object at a number that the table does not have
-abbrev pub no_object : Object
-no_object = record { class = 0; vars = []; term = Done; fault = None }
-
--- the objects with these state numbers, named from o on
-abbrev pub objects_from : ℕ → List Object → List ℕ → List (ℕ × Object)
-objects_from o xs [] = []
-objects_from o xs (n ∷ ns) = (o, slice_index_or xs n no_object) ∷ objects_from (suc o) xs ns
 
 -- the objects have the names o, o + 1, ..
 abbrev pub AreNamedFrom : ℕ → List (ℕ × Object) → Type 0
@@ -43,7 +34,7 @@ passed xs ws e = record { next = e.next; items = get_or ws e.written []; configu
 
 -- the table has each number, the queues are in order, and the configuration is typed
 pub record EntryInvariant (p : ProgramTree) (xs : List Object) (e : Numbered) : Type 0 where
-  pub within : All (λ n. n < length xs) e.objects.items
+  pub within : AreWithin xs e.objects.items
   pub sorted : IsTrue (is_sorted pair_cmp (map queue_messages e.queues.items))
   pub sound : ∥ Sound p (numbered xs e) ∥₁
 

@@ -5,7 +5,7 @@ use Rattle.pool_relation.specs.Configuration.{Configuration}
 use Rattle.pool_search.specs.declared.queries.Query.{Query}
 use Rattle.pool_search.specs.declared.queries.SearchResult.{SearchResult}
 use Rattle.pool_search.specs.declared.queries.SearchResult.TheVariants as F
-use Rattle.pool_search.specs.SearchTargets.{IsWantedEnd, IsWantedDead, IsWantedFault, LeadsTo, IsFinite}
+use Rattle.pool_search.specs.SearchTargets.{IsWantedEnd, IsWantedDead, IsWantedFault, IsShownFault, LeadsInOrder, IsFinite}
 
 -- the configuration is no end and has no run-time error that the query looks for
 pub record IsPassedBy (p : ProgramTree) (q : Query) (c : Configuration) : Type 0 where
@@ -15,8 +15,8 @@ pub record IsPassedBy (p : ProgramTree) (q : Query) (c : Configuration) : Type 0
 -- The run of a result leads to a configuration that the query looks
 -- for. `Finite` says that no run does. `Over` says nothing about runs.
 abbrev pub IsAnswer : ProgramTree → Query → SearchResult → Type 0
-IsAnswer p q (F.Stuck ls) = LeadsTo p ls.items (IsWantedEnd p q)
-IsAnswer p q (F.Dead ls names) = LeadsTo p ls.items (IsWantedDead p q names.items)
-IsAnswer p q (F.Fault ls) = LeadsTo p ls.items (IsWantedFault q)
+IsAnswer p q (F.Stuck ls) = LeadsInOrder p ls.items (IsWantedEnd p q)
+IsAnswer p q (F.Dead ls names) = LeadsInOrder p ls.items (IsWantedDead p q names.items)
+IsAnswer p q (F.Fault ls) = LeadsInOrder p ls.items (IsShownFault p q)
 IsAnswer p q (F.Finite k) = IsFinite p q k
 IsAnswer p q (F.Over k) = k ≤ q.most

@@ -5,7 +5,7 @@ use Rattle.pool_syntax.specs.Terms.{ProgramTree}
 use Rattle.run_types.specs.Tables.{Each}
 use Rattle.pool_relation.specs.Configuration.{Configuration}
 use Rattle.pool_relation.specs.Transition.{run, start}
-use Rattle.reachability.specs.Search.{IsReached, WaitsAt, IsStuck, IsUnfinished, IsFaulty}
+use Rattle.reachability.specs.Search.{IsReached, WaitsAt, IsStuck, IsUnfinished, IsFaulty, in_order}
 use Rattle.search_laws.specs.Dead.{IsDead, HasDead, CanGoOn}
 use Rattle.search_laws.specs.PutOff.{IsWholeByChoices}
 use Rattle.pool_search.specs.declared.queries.Target.{Target}
@@ -55,6 +55,11 @@ pub record IsWantedFault (q : Query) (c : Configuration) : Type 0 where
   pub asked : wants_fault q.wanted ≡ true
   pub holds : IsFaulty c
 
+-- the same, and it is no end that the query looks for, which comes first
+pub record IsShownFault (p : ProgramTree) (q : Query) (c : Configuration) : Type 0 where
+  pub fault : IsWantedFault q c
+  pub no_end : ¬ (IsWantedEnd p q c)
+
 -- the query does not look for this configuration
 pub record IsUnwanted (p : ProgramTree) (q : Query) (c : Configuration) : Type 0 where
   pub not_stuck : ¬ (IsWantedStuck p q c)
@@ -67,6 +72,10 @@ pub record LeadsTo (p : ProgramTree) (ls : List Label) (P : Configuration → Ty
   pub starts : start p 0 ≡ Some first
   pub leads : run p first ls ≡ Some last
   pub holds : P last
+
+-- the same, and the labels give new objects the names 1, 2, .. in order
+abbrev pub LeadsInOrder : ProgramTree → List Label → (Configuration → Type 0) → Type 0
+LeadsInOrder p ls P = LeadsTo p ls P × (in_order 1 ls ≡ true)
 
 -- there is a list of k configurations that the steps of a search do not leave, and that puts off no label for ever
 pub record HasWholeList (p : ProgramTree) (k : ℕ) : Type 0 where

@@ -4,6 +4,7 @@ use Rattle.run_types.specs.declared.types.Item.{Item}
 use Rattle.run_types.specs.declared.types.Label.{Label}
 use Rattle.pool_syntax.specs.Terms.{ProgramTree}
 use Rattle.pool_relation.specs.Configuration.{Configuration}
+use Rattle.pool_relation.specs.Transition.{transition}
 use Rattle.search_laws.specs.Outcomes.{Passed}
 use Rattle.search_laws.specs.Stubborn.{is_served}
 use Rattle.search_laws.specs.Tried.{Course, Follows, LeadsAt}
@@ -35,3 +36,9 @@ pub record OneLeadsOn (p : ProgramTree) (k : Course) (es : Entries) (at : ℕ) (
   pub label : Label
   pub asked : is_asked served label ≡ true
   pub leads : LeadsAt p k es e.next e.items e.configuration label place
+
+-- the label is possible in c, and leads to this configuration after some transitions that are followed
+pub record IsLedTo (p : ProgramTree) (k : Course) (c : Configuration) (l : Label) (to : Configuration) : Type 0 where
+  pub next : Configuration
+  pub step : transition p c l ≡ Some next
+  pub follows : Follows p k next to

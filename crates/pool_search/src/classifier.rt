@@ -1,7 +1,7 @@
 //! Decides whether a configuration is one that the query looks for.
 ghost use Rattle.std.specs.Prelude.{◌≡◌, false, true};
 ghost use Rattle.pool_semantics.specs.PlainOf.{configuration_of, program_tree, is_spent};
-ghost use Rattle.pool_search.specs.SearchTargets.{IsStuckEnd, IsWantedEnd, IsWantedFault};
+ghost use Rattle.pool_search.specs.SearchTargets.{IsStuckEnd, IsWantedEnd, IsShownFault};
 ghost use Rattle.pool_search.specs.SearchAnswers.{IsPassedBy};
 ghost use Rattle.reachability.specs.Search.{IsFaulty};
 
@@ -43,7 +43,7 @@ pub fn is_faulty(plain: &Plain<'_>) -> bool
 pub fn judge(plain: &Plain<'_>, question: &Query) -> Classification
     requires { is_spent plain.now ≡ false }
     ensures stuck { result ≡ Classification.Stuck → IsWantedEnd (program_tree plain.now) question.now (configuration_of plain.now) }
-    ensures fault { result ≡ Classification.Fault → IsWantedFault question.now (configuration_of plain.now) }
+    ensures fault { result ≡ Classification.Fault → IsShownFault (program_tree plain.now) question.now (configuration_of plain.now) }
     ensures neither { result ≡ Classification.Neither → IsPassedBy (program_tree plain.now) question.now (configuration_of plain.now) }
 {
     let stuck = match question.wanted {

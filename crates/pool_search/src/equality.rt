@@ -4,25 +4,10 @@ ghost use Rattle.pool_semantics.specs.Mails.{message_of};
 ghost use Rattle.pool_search.specs.Numbers.{queue_messages};
 
 use crate::numbered::{Numbered, Queue};
+use object_moves::same_values;
 use pool_semantics::Mail;
 use run_types::Value;
-use run_types::operators::same;
 use std::hash::{FoldHasher, Hasher};
-
-#[tactic(auto, using(run_types::proofs::Laws::same_value))]
-fn same_values(left: &[Value], right: &[Value]) -> bool
-    ensures { result ≡ true → left.now ≡ right.now }
-{
-    if left.len() != right.len() {
-        return false;
-    }
-    for (i, value) in left.iter().enumerate() {
-        if !same(*value, right[i]) {
-            return false;
-        }
-    }
-    true
-}
 
 fn same_mail(left: &Mail, right: &Mail) -> bool
     ensures { result ≡ true → message_of left.now ≡ message_of right.now }

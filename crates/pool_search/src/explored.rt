@@ -1,5 +1,6 @@
 //! The visited set of a search, and the expansion of its entries.
 ghost use Rattle.std.specs.Prelude.{◌≡◌, ◌⊎◌, ◌+◌, ◌++◌, ◌∷◌, ◌<◌, ◌≤◌, ℕ, Ok, Some, None, IfOk, IfSome, get_or, length, slice_get, min, [], true, false};
+ghost use Rattle.pool_relation.specs.Configuration.{Configuration};
 ghost use Rattle.pool_relation.specs.Transition.{transition};
 ghost use Rattle.pool_semantics.specs.PlainOf.{configuration_of, program_tree, is_spent};
 ghost use Rattle.std.specs.List.{filter};
@@ -18,7 +19,7 @@ use crate::classifier::{Classification, judge};
 use crate::queries::Query;
 use crate::scope::{Keeps, Scope};
 use crate::settling::settle;
-use crate::visited::{Entry, VisitedSet};
+use crate::visited::{Entry, Found, VisitedSet};
 use crate::writings::item_of;
 use pool_semantics::{Plain, Refuse};
 use run_types::Label;
@@ -174,9 +175,50 @@ impl<'a> Explored<'a> {
         }
     }
 
-    /// Tries a label of the entry `origin.from`, where the stepper is, and returns the stepper there. An error means out
-    /// of memory.
-    fn follow(
+    /// Tries a label of the entry `origin.from` by the table of moves. None if that does not tell where the label leads. An
+    /// error means out of memory.
+    fn follow_known(
+        &mut self,
+        next: u32,
+        label: &Label,
+        origin: Origin,
+        scope: Scope,
+    ) -> Result<Option<Trial>, AllocError>
+        requires there { (c : Configuration) × IsEntryAt (entries self.old) origin.from next c }
+        requires reached { AllReached (searched self.old) (course_of scope.keeps) (entries self.old) }
+        ensures program { searched self.new ≡ searched self.old }
+        ensures same { result ≡ Ok None → entries self.new ≡ entries self.old }
+        ensures grows { IfOk result (λ o. IfSome o (λ t. is_tried t ≡ true → Grows (searched self.old) (course_of scope.keeps) scope.most (entries self.old) (entries self.new))) }
+        ensures impossible { result ≡ Ok (Some Trial.Tried) → (e : Passed) → slice_get (entries self.old) origin.from ≡ Some e → transition (searched self.old) e.configuration label.now ≡ None }
+        ensures led { (i : ℕ) → result ≡ Ok (Some (Trial.Led i)) → (e : Passed) → slice_get (entries self.old) origin.from ≡ Some e
+            → LeadsAt (searched self.old) (course_of scope.keeps) (entries self.new) e.next e.items e.configuration label.now i }
+    {
+        let Some(after) = name_after(next, label) else {
+            return Ok(None);
+        };
+        let before = self.kept.written(origin.from as usize);
+        let Some(written) = self.written_after(scope.keeps, before, label)? else {
+            return Ok(None);
+        };
+        let from = origin.from as usize;
+        match self.kept.lead(from, label, after, written, scope.keeps) {
+            Ok(Found::Unknown) => Ok(None),
+            Ok(Found::Impossible) => Ok(Some(Trial::Tried)),
+            Ok(Found::At(Entry::Seen(number))) => Ok(Some(Trial::Led(number))),
+            Ok(Found::At(Entry::Added(number))) => {
+                if number >= scope.most {
+                    return Ok(Some(Trial::Over));
+                }
+                self.origins.push(origin)?;
+                Ok(Some(Trial::Led(number)))
+            }
+            Err(_) => Err(AllocError),
+        }
+    }
+
+    /// Tries a label of the entry `origin.from`, where the stepper is, by the stepper, and returns the stepper there. An
+    /// error means out of memory.
+    fn follow_whole(
         &mut self,
         plain: &mut Plain<'a>,
         next: u32,
@@ -214,6 +256,36 @@ impl<'a> Explored<'a> {
         };
         *plain = self.kept.configuration(origin.from as usize)?;
         Ok(Trial::Led(place))
+    }
+
+    /// Tries a label of the entry `origin.from`, where the stepper is, and returns the stepper there. An error means out
+    /// of memory.
+    fn follow(
+        &mut self,
+        plain: &mut Plain<'a>,
+        next: u32,
+        label: &Label,
+        origin: Origin,
+        scope: Scope,
+    ) -> Result<Trial, AllocError>
+        requires fresh { is_spent plain.old ≡ false }
+        requires program { program_tree plain.old ≡ searched self.old }
+        requires there { IsEntryAt (entries self.old) origin.from next (configuration_of plain.old) }
+        requires reached { AllReached (searched self.old) (course_of scope.keeps) (entries self.old) }
+        ensures program { searched self.new ≡ searched self.old }
+        ensures grows { IfOk result (λ t. is_tried t ≡ true → Grows (searched self.old) (course_of scope.keeps) scope.most (entries self.old) (entries self.new)) }
+        ensures impossible { result ≡ Ok Trial.Tried → transition (searched self.old) (configuration_of plain.old) label.now ≡ None }
+        ensures led { (i : ℕ) → result ≡ Ok (Trial.Led i) → (e : Passed) → slice_get (entries self.old) origin.from ≡ Some e
+            → LeadsAt (searched self.old) (course_of scope.keeps) (entries self.new) e.next e.items e.configuration label.now i }
+        ensures again { IfOk result (λ t. is_tried t ≡ true → configuration_of plain.new ≡ configuration_of plain.old) }
+        ensures same_program { IfOk result (λ t. is_tried t ≡ true → program_tree plain.new ≡ program_tree plain.old) }
+        ensures fresh { IfOk result (λ t. is_tried t ≡ true → is_spent plain.new ≡ false) }
+    {
+        match self.follow_known(next, label, origin, scope) {
+            Ok(Some(trial)) => Ok(trial),
+            Ok(None) => self.follow_whole(plain, next, label, origin, scope),
+            Err(_) => Err(AllocError),
+        }
     }
 
     /// Tries one more label of the entry `origin.from`, where the stepper is, if it is asked for. `trial` is the result of

@@ -6,12 +6,13 @@ ghost use Rattle.std.specs.FinMap.Entries.{is_sorted};
 ghost use Rattle.run_types.specs.Tables.{pair_cmp};
 ghost use Rattle.stepper_objects.specs.ObjectStates.{things};
 ghost use Rattle.pool_semantics.specs.Mails.{posts};
-ghost use Rattle.search_states.specs.States.{states};
-ghost use Rattle.pool_search.specs.Numbers.{AreNamedFrom, objects_from, queue_messages};
+ghost use Rattle.object_moves.specs.Tables.{known_states, table_program};
+ghost use Rattle.object_moves.specs.Rows.{objects_from};
+ghost use Rattle.pool_search.specs.Numbers.{AreNamedFrom, queue_messages};
 
 use crate::numbered::Queue;
+use object_moves::MoveTable;
 use pool_semantics::Mail;
-use search_states::StateTable;
 use std::alloc::{AllocError, Global};
 use std::collections::{BTreeMap, VecDeque};
 use stepper_objects::object_state::ObjectState;
@@ -20,14 +21,15 @@ use stepper_objects::object_state::ObjectState;
 /// None if the table is full, or if the names are not 0, 1, 2, .. An error means out of memory.
 pub fn numbers_of<'a>(
     alloc: Global,
-    table: &mut StateTable<'a>,
+    table: &mut MoveTable<'a>,
     objects: &BTreeMap<u32, ObjectState<'a>>,
 ) -> Result<Option<Vec<u32>>, AllocError>
-    ensures grows { take (length (states table.old)) (states table.new) ≡ states table.old }
-    ensures within { IfOk result (λ o. IfSome o (λ v. All (λ n. n < length (states table.new)) v.items)) }
-    ensures objects { IfOk result (λ o. IfSome o (λ v. objects_from 0 (states table.new) v.items ≡ things objects.now.entries)) }
+    ensures program { table_program table.new ≡ table_program table.old }
+    ensures grows { take (length (known_states table.old)) (known_states table.new) ≡ known_states table.old }
+    ensures within { IfOk result (λ o. IfSome o (λ v. All (λ n. n < length (known_states table.new)) v.items)) }
+    ensures objects { IfOk result (λ o. IfSome o (λ v. objects_from 0 (known_states table.new) v.items ≡ things objects.now.entries)) }
     ensures sorted { IfOk result (λ o. IsTrue (is_sorted nat_cmp (things objects.now.entries))) }
-    ensures full { result ≡ Ok None → AreNamedFrom 0 (things objects.now.entries) → 2 ^ 32 - 1 ≤ length (states table.new) }
+    ensures full { result ≡ Ok None → AreNamedFrom 0 (things objects.now.entries) → 2 ^ 32 - 1 ≤ length (known_states table.new) }
 {
     let mut numbers = Vec::with_capacity(alloc, objects.len())?;
     for (name, thing) in objects.iter() {

@@ -5,12 +5,14 @@ ghost use Rattle.std.specs.FinMap.Entries.{is_sorted};
 ghost use Rattle.run_types.specs.Tables.{pair_cmp};
 ghost use Rattle.stepper_objects.specs.ObjectStates.{things};
 ghost use Rattle.pool_semantics.specs.Mails.{posts};
-ghost use Rattle.search_states.specs.States.{states};
-ghost use Rattle.pool_search.specs.Numbers.{objects_from, queue_messages};
+ghost use Rattle.object_moves.specs.Tables.{known_states};
+ghost use Rattle.object_moves.specs.Rows.{objects_from};
+ghost use Rattle.pool_search.specs.Numbers.{queue_messages};
 
 use crate::numbered::Queue;
+use object_moves::MoveTable;
 use pool_semantics::Mail;
-use search_states::{StateTable, copy};
+use search_states::copy;
 use std::alloc::{AllocError, Global};
 use std::collections::{BTreeMap, VecDeque};
 use stepper_objects::object_state::ObjectState;
@@ -19,11 +21,11 @@ use stepper_objects::object_state::ObjectState;
 /// An error means out of memory, or that there are more objects than names.
 pub fn objects_at<'a>(
     alloc: Global,
-    table: &StateTable<'a>,
+    table: &MoveTable<'a>,
     numbers: &[u32],
 ) -> Result<BTreeMap<u32, ObjectState<'a>>, AllocError>
-    requires { All (λ n. n < length (states table.now)) numbers.now }
-    ensures { IfOk result (λ m. things m.entries ≡ objects_from 0 (states table.now) numbers.now) }
+    requires { All (λ n. n < length (known_states table.now)) numbers.now }
+    ensures { IfOk result (λ m. things m.entries ≡ objects_from 0 (known_states table.now) numbers.now) }
 {
     let mut objects = BTreeMap::new(alloc);
     for (i, number) in numbers.iter().enumerate() {

@@ -6,6 +6,7 @@ ghost use Rattle.pool_relation.specs.Transition.{run};
 ghost use Rattle.pool_semantics.specs.PlainOf.{configuration_of, program_tree, is_spent};
 ghost use Rattle.pool_search.specs.SearchAnswers.{IsAnswer};
 
+use crate::changes::next_after;
 use crate::classifier::{Classification, judge};
 use crate::explored::{Origin, name_after};
 use crate::queries::{Query, SearchResult};
@@ -113,8 +114,8 @@ pub fn retrace(
     Ok(true)
 }
 
-/// The run of these indexes as a result. None if the run cannot be repeated, or the query does not look for its end.
-/// An error means out of memory.
+/// The run of these indexes as a result. None if the run cannot be repeated, if no name of 32 bits is left, or if the query
+/// does not look for its end. An error means out of memory.
 pub fn show(
     alloc: Global,
     program: &Checked<'_>,
@@ -128,6 +129,9 @@ pub fn show(
     if !retrace(alloc, &mut plain, Keeps::States, way, &mut shown)? {
         return Ok(None);
     }
+    let Some(_) = next_after(1, &shown) else {
+        return Ok(None);
+    };
     Ok(match judge(&plain, question) {
         Classification::Stuck => Some(SearchResult::Stuck(shown)),
         Classification::Fault => Some(SearchResult::Fault(shown)),

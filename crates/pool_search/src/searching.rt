@@ -8,7 +8,7 @@ ghost use Rattle.search_laws.specs.Tried.{states_only};
 ghost use Rattle.pool_search.specs.Courses.{course_of};
 ghost use Rattle.pool_search.specs.Entries.{IsPassedOver, entries, searched};
 ghost use Rattle.pool_search.specs.Progress.{AllInOrder, IsSearchedTo};
-ghost use Rattle.pool_search.specs.SearchTargets.{LeadsTo, IsWantedEnd, IsWantedDead, IsWantedFault, IsFinite, wants_stuck};
+ghost use Rattle.pool_search.specs.SearchTargets.{IsFinite, IsShownFault, IsWantedDead, IsWantedEnd, LeadsInOrder, wants_stuck};
 ghost use Rattle.pool_search.specs.SearchAnswers.{IsAnswer};
 ghost use Rattle.pool_search.specs.declared.queries.Query.{Query};
 
@@ -156,10 +156,10 @@ pub fn search(
     question: &Query,
 ) -> Result<SearchResult, AllocError>
     ensures stuck { (ls : Vec Label Global) → result ≡ Ok (SearchResult.Stuck ls)
-        → LeadsTo (program_of program.now.program.now) ls.items (IsWantedEnd (program_of program.now.program.now) question.now) }
+        → LeadsInOrder (program_of program.now.program.now) ls.items (IsWantedEnd (program_of program.now.program.now) question.now) }
     ensures dead { (ls : Vec Label Global) (names : Vec ℕ Global) → result ≡ Ok (SearchResult.Dead ls names)
-        → LeadsTo (program_of program.now.program.now) ls.items (IsWantedDead (program_of program.now.program.now) question.now names.items) }
-    ensures fault { (ls : Vec Label Global) → result ≡ Ok (SearchResult.Fault ls) → LeadsTo (program_of program.now.program.now) ls.items (IsWantedFault question.now) }
+        → LeadsInOrder (program_of program.now.program.now) ls.items (IsWantedDead (program_of program.now.program.now) question.now names.items) }
+    ensures fault { (ls : Vec Label Global) → result ≡ Ok (SearchResult.Fault ls) → LeadsInOrder (program_of program.now.program.now) ls.items (IsShownFault (program_of program.now.program.now) question.now) }
     ensures finite { (k : ℕ) → result ≡ Ok (SearchResult.Finite k) → IsFinite (program_of program.now.program.now) question.now k }
     ensures over { (k : ℕ) → result ≡ Ok (SearchResult.Over k) → k ≤ question.now.most }
 {

@@ -1,8 +1,7 @@
 //! The visited set: configurations of one program.
 ghost use Rattle.std.specs.Prelude.{◌≡◌};
 ghost use Rattle.std.specs.List.{All};
-ghost use Rattle.pool_syntax.specs.TreeOf.{program_of};
-ghost use Rattle.search_states.specs.States.{states};
+ghost use Rattle.object_moves.specs.Tables.{known_states, table_program};
 ghost use Rattle.pool_search.specs.Numbers.{EntryInvariant, IsNamed};
 ghost use Rattle.pool_search.specs.WritingsOf.{lists_of};
 
@@ -10,11 +9,11 @@ use crate::equality::{mark, same_numbered};
 use crate::made::{numbers_of, queues_of};
 use crate::numbered::Numbered;
 use crate::restored::{messages_at, objects_at};
+use crate::scope::Keeps;
 use crate::writings::Writings;
+use object_moves::{Lead, MoveTable};
 use pool_semantics::{Plain, State};
-use pool_syntax::Program;
-use run_types::Item;
-use search_states::StateTable;
+use run_types::{Item, Label};
 use std::alloc::{AllocError, Global};
 use std::collections::{BTreeMap, HashMap};
 use stepper_objects::object_state::ObjectState;
@@ -26,6 +25,17 @@ pub enum Entry {
     Added(u32),
 }
 
+/// Where a label leads, as far as the table of moves tells.
+#[derive(Clone, Copy)]
+pub enum Found {
+    /// It tells nothing.
+    Unknown,
+    /// The label is not possible.
+    Impossible,
+    /// This configuration.
+    At(Entry),
+}
+
 /// Configurations of one program, each with its next free name and what was written. `latest` has the last one of each
 /// hash.
 /// At most 2^32 configurations and 2^32 - 1 object states fit. A
@@ -33,12 +43,11 @@ pub enum Entry {
 #[derive(Drop)]
 pub struct VisitedSet<'a> {
     alloc: Global,
-    program: &'a Program,
-    table: StateTable<'a>,
+    moves: MoveTable<'a>,
     writings: Writings,
     entries: Vec<Numbered>,
     latest: HashMap<u64, u32>,
-    ghost kept: { All (EntryInvariant (program_of program.now) (states table)) entries.items },
+    ghost kept: { All (EntryInvariant (table_program moves) (known_states moves)) entries.items },
     ghost named: { All (IsNamed (lists_of writings)) entries.items },
 }
 
@@ -49,7 +58,12 @@ impl<'a> VisitedSet<'a> {
     ghost use Rattle.stepper_objects.specs.ObjectStates.{things};
     ghost use Rattle.pool_semantics.specs.PlainOf.{configuration_of, program_tree, is_spent};
     ghost use Rattle.reachability.specs.Search.{IsInOrder};
-    ghost use Rattle.pool_search.specs.Numbers.{AreNamedFrom, passed, objects_from};
+    ghost use Rattle.object_moves.specs.Rows.{objects_from};
+    ghost use Rattle.pool_search.specs.Numbers.{AreNamedFrom, passed};
+    ghost use Rattle.pool_relation.specs.Configuration.{Configuration};
+    ghost use Rattle.pool_relation.specs.Transition.{transition};
+    ghost use Rattle.pool_search.specs.Courses.{course_of};
+    ghost use Rattle.pool_search.specs.Trials.{IsLedTo};
     ghost use Rattle.pool_search.specs.VisitedConfigurations.{IsFull, entry, kept_list, kept_lists, kept_program};
 
     /// An empty set for the program of `plain`.
@@ -60,8 +74,7 @@ impl<'a> VisitedSet<'a> {
     {
         Ok(VisitedSet {
             alloc,
-            program: plain.state().program,
-            table: StateTable::make(alloc),
+            moves: MoveTable::make(alloc, plain.state().program),
             writings: Writings::make(alloc),
             entries: Vec::new(alloc),
             latest: HashMap::new(alloc),
@@ -119,11 +132,11 @@ impl<'a> VisitedSet<'a> {
         ensures fresh { IfOk result (λ s. is_spent s ≡ false) }
     {
         let entry = &self.entries[at];
-        let objects = objects_at(self.alloc, &self.table, entry.objects.as_slice())?;
+        let objects = objects_at(self.alloc, &self.moves, entry.objects.as_slice())?;
         let messages = messages_at(self.alloc, entry.queues.as_slice())?;
         Ok(Plain::of(State {
             alloc: self.alloc,
-            program: self.program,
+            program: self.moves.program(),
             objects,
             messages,
         }))
@@ -131,7 +144,7 @@ impl<'a> VisitedSet<'a> {
 
     /// The index of this configuration, if it is the last one of its hash.
     fn seen(&self, mark: u64, found: &Numbered) -> Option<u32>
-        ensures { IfSome result (λ i. slice_get (kept_list self.now) i ≡ Some (passed (states self.now.table) (kept_lists self.now) found.now)) }
+        ensures { IfSome result (λ i. slice_get (kept_list self.now) i ≡ Some (passed (known_states self.now.moves) (kept_lists self.now) found.now)) }
     {
         let at = *self.latest.get(&mark)?;
         let entry = self.entries.as_slice().get(at as usize)?;
@@ -145,13 +158,13 @@ impl<'a> VisitedSet<'a> {
     /// Adds a configuration, and returns its index. None if the
     /// set has 2^32 configurations. An error means out of memory.
     fn add(&mut self, mark: u64, found: Numbered) -> Result<Option<u32>, AllocError>
-        requires kept { EntryInvariant (program_of self.old.program.now) (states self.old.table) found }
+        requires kept { EntryInvariant (kept_program self.old) (known_states self.old.moves) found }
         requires named { IsNamed (kept_lists self.old) found }
-        ensures added { IfOk result (λ o. IfSome o (λ i. (kept_list self.new ≡ kept_list self.old ++ passed (states self.old.table) (kept_lists self.old) found ∷ []) × (i ≡ length (kept_list self.old)))) }
+        ensures added { IfOk result (λ o. IfSome o (λ i. (kept_list self.new ≡ kept_list self.old ++ passed (known_states self.old.moves) (kept_lists self.old) found ∷ []) × (i ≡ length (kept_list self.old)))) }
         ensures none { result ≡ Ok None → kept_list self.new ≡ kept_list self.old }
         ensures full { result ≡ Ok None → IsFull self.new }
         ensures error { OnErr result (kept_list self.new ≡ kept_list self.old) }
-        ensures program { self.new.program ≡ self.old.program }
+        ensures program { kept_program self.new ≡ kept_program self.old }
         ensures lists { kept_lists self.new ≡ kept_lists self.old }
     {
         let Ok(at) = u32::try_from(self.entries.len()) else {
@@ -170,13 +183,13 @@ impl<'a> VisitedSet<'a> {
     ) -> Result<Option<Vec<u32>>, AllocError>
         ensures list { kept_list self.new ≡ kept_list self.old }
         ensures lists { kept_lists self.new ≡ kept_lists self.old }
-        ensures program { self.new.program ≡ self.old.program }
-        ensures within { IfOk result (λ o. IfSome o (λ v. All (λ n. n < length (states self.new.table)) v.items)) }
-        ensures objects { IfOk result (λ o. IfSome o (λ v. objects_from 0 (states self.new.table) v.items ≡ things objects.now.entries)) }
+        ensures program { kept_program self.new ≡ kept_program self.old }
+        ensures within { IfOk result (λ o. IfSome o (λ v. All (λ n. n < length (known_states self.new.moves)) v.items)) }
+        ensures objects { IfOk result (λ o. IfSome o (λ v. objects_from 0 (known_states self.new.moves) v.items ≡ things objects.now.entries)) }
         ensures sorted { IfOk result (λ o. IsTrue (is_sorted nat_cmp (things objects.now.entries))) }
         ensures full { result ≡ Ok None → AreNamedFrom 0 (things objects.now.entries) → IsFull self.new }
     {
-        numbers_of(self.alloc, &mut self.table, objects)
+        numbers_of(self.alloc, &mut self.moves, objects)
     }
 
     /// The index of a configuration, with what was written. Requires that it is one of the set's program, and the number of
@@ -253,6 +266,59 @@ impl<'a> VisitedSet<'a> {
             None => match self.add(mark, found)? {
                 Some(at) => Ok(Some(Entry::Added(at))),
                 None => Ok(None),
+            },
+        }
+    }
+
+    /// Looks up where the label leads from the configuration at this index, after transitions that are followed. Adds that
+    /// configuration, with this next name and this number of what was written, if it was not found. Tells nothing where a
+    /// message waits, and of labels that make an object or send or take a message; also if a bound is met. An error means
+    /// out of memory.
+    pub fn lead(
+        &mut self,
+        at: usize,
+        label: &Label,
+        next: u32,
+        written: u32,
+        keeps: Keeps,
+    ) -> Result<Found, AllocError>
+        requires there { at < length (kept_list self.old) }
+        requires named { written < length (kept_lists self.old) }
+        ensures program { kept_program self.new ≡ kept_program self.old }
+        ensures lists { kept_lists self.new ≡ kept_lists self.old }
+        ensures unknown { result ≡ Ok Found.Unknown → kept_list self.new ≡ kept_list self.old }
+        ensures impossible { result ≡ Ok Found.Impossible
+            → (kept_list self.new ≡ kept_list self.old) × IfSome (slice_get (kept_list self.old) at) (λ e. transition (kept_program self.old) e.configuration label.now ≡ None) }
+        ensures seen { (i : ℕ) → result ≡ Ok (Found.At (Entry.Seen i))
+            → (kept_list self.new ≡ kept_list self.old) × IfSome (slice_get (kept_list self.old) at) (λ e. (to : Configuration) × IsLedTo (kept_program self.old) (course_of keeps) e.configuration label.now to
+            × (slice_get (kept_list self.old) i ≡ Some (entry next (get_or (kept_lists self.old) written []) to))) }
+        ensures added { (i : ℕ) → result ≡ Ok (Found.At (Entry.Added i))
+            → IfSome (slice_get (kept_list self.old) at) (λ e. (to : Configuration) × IsLedTo (kept_program self.old) (course_of keeps) e.configuration label.now to × IsInOrder to
+            × (kept_list self.new ≡ kept_list self.old ++ entry next (get_or (kept_lists self.old) written []) to ∷ []) × (i ≡ length (kept_list self.old))) }
+    {
+        let from = &self.entries[at];
+        if !from.queues.is_empty() {
+            return Ok(Found::Unknown);
+        }
+        let mut objects = Vec::from_slice(self.alloc, from.objects.as_slice())?;
+        match self.moves.lead(&mut objects, label, keeps.silent()) {
+            Ok(Lead::Unknown) => return Ok(Found::Unknown),
+            Ok(Lead::Impossible) => return Ok(Found::Impossible),
+            Ok(Lead::Made) => {}
+            Err(_) => return Err(AllocError),
+        }
+        let found = Numbered {
+            next,
+            written,
+            objects,
+            queues: Vec::new(self.alloc),
+        };
+        let mark = mark(&found);
+        match self.seen(mark, &found) {
+            Some(at) => Ok(Found::At(Entry::Seen(at))),
+            None => match self.add(mark, found)? {
+                Some(at) => Ok(Found::At(Entry::Added(at))),
+                None => Ok(Found::Unknown),
             },
         }
     }

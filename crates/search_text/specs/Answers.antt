@@ -4,7 +4,7 @@ use Rattle.text_scan.specs.Text.{Text}
 use Rattle.pool_syntax.specs.Terms.{ProgramTree}
 use Rattle.run_types.specs.declared.types.Label.{Label}
 use Rattle.pool_search.specs.declared.queries.Query.{Query}
-use Rattle.pool_search.specs.SearchTargets.{LeadsTo, IsWantedEnd, IsWantedDead, IsWantedFault, IsFinite}
+use Rattle.pool_search.specs.SearchTargets.{LeadsInOrder, IsWantedEnd, IsWantedDead, IsShownFault, IsFinite}
 use Rattle.run_types.specs.Tables.{Each}
 use Rattle.pool_search.specs.declared.outcomes.Outcome.{Outcome}
 use Rattle.pool_search.specs.OutcomeTargets.{HasAllOutcomes, IsRunOf, IsShown}
@@ -16,13 +16,14 @@ use Rattle.search_text.specs.declared.answers.Found.{Found}
 use Rattle.search_text.specs.declared.answers.Found.TheVariants as O
 
 -- The answer for a program. It is a run from the start to where no label is possible, with the objects that wait there.
--- Or it is a run after which objects are dead, with these objects, or a run that meets a run-time error.
+-- Or it is a run after which objects are dead, with these objects, or a run that meets a run-time error and is no such end.
+-- A run gives new objects the names 1, 2, .. in order.
 -- Or no run leads to such a configuration, under any names of objects, and a whole list of configurations shows this.
 -- Or nothing is known after this number of configurations.
 pub data Answers (names : List Text) (p : ProgramTree) (q : Query) (text : Text) (found : Found) : Type 0 where
-  stuck : (ls : List Label) (run : LeadsTo p ls (IsWantedEnd p q)) → text ≡ stuck_text names ls (waiting_rows q.all p run.last) → found ≡ O.Shown → Answers names p q text found
-  dead : (ls : List Label) (objects : List ℕ) (run : LeadsTo p ls (IsWantedDead p q objects)) → text ≡ stuck_text names ls (rows_of objects (waiting_rows false p run.last)) → found ≡ O.Shown → Answers names p q text found
-  faulty : (ls : List Label) → LeadsTo p ls (IsWantedFault q) → text ≡ fault_text names ls → found ≡ O.Shown → Answers names p q text found
+  stuck : (ls : List Label) (run : LeadsInOrder p ls (IsWantedEnd p q)) → text ≡ stuck_text names ls (waiting_rows q.all p run.0.last) → found ≡ O.Shown → Answers names p q text found
+  dead : (ls : List Label) (objects : List ℕ) (run : LeadsInOrder p ls (IsWantedDead p q objects)) → text ≡ stuck_text names ls (rows_of objects (waiting_rows false p run.0.last)) → found ≡ O.Shown → Answers names p q text found
+  faulty : (ls : List Label) → LeadsInOrder p ls (IsShownFault p q) → text ≡ fault_text names ls → found ≡ O.Shown → Answers names p q text found
   finite : (kept : ℕ) → IsFinite p q kept → text ≡ finite_text kept → found ≡ O.Finite → Answers names p q text found
   over : (kept : ℕ) → kept ≤ q.most → text ≡ over_text kept → found ≡ O.Over → Answers names p q text found
 

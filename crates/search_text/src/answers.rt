@@ -1,7 +1,7 @@
 //! Searches a program, and makes the answer.
 ghost use Rattle.std.specs.Prelude.{◌≡◌, ◌++◌, map, string_bytes, IfOk};
 ghost use Rattle.pool_syntax.specs.TreeOf.{program_of};
-ghost use Rattle.pool_search.specs.SearchTargets.{IsWantedDead, IsWantedEnd, LeadsTo};
+ghost use Rattle.pool_search.specs.SearchTargets.{IsWantedDead, IsWantedEnd, LeadsInOrder};
 ghost use Rattle.search_text.specs.AnswerText.{ending, outcomes_text};
 ghost use Rattle.search_text.specs.Answers.{Answers, Grades, IsAnswerTo, ShowsRun, TellsOutcomes, found_of};
 ghost use Rattle.search_text.specs.Inquiries.{inquiry};
@@ -62,7 +62,7 @@ fn stuck_answer(
     question: &Query,
     labels: &[Label],
 ) -> Result<Answer, AllocError>
-    requires { LeadsTo (program_of program.now.program.now) labels.now (IsWantedEnd (program_of program.now.program.now) question.now) }
+    requires { LeadsInOrder (program_of program.now.program.now) labels.now (IsWantedEnd (program_of program.now.program.now) question.now) }
     ensures { IfOk result (λ a. Answers names.now (program_of program.now.program.now) question.now a.text.items a.found) }
 {
     let plain = replay(alloc, program, labels)?;
@@ -83,7 +83,7 @@ fn dead_answer(
     labels: &[Label],
     dead: &[u32],
 ) -> Result<Answer, AllocError>
-    requires { LeadsTo (program_of program.now.program.now) labels.now (IsWantedDead (program_of program.now.program.now) question.now dead.now) }
+    requires { LeadsInOrder (program_of program.now.program.now) labels.now (IsWantedDead (program_of program.now.program.now) question.now dead.now) }
     ensures { IfOk result (λ a. Answers names.now (program_of program.now.program.now) question.now a.text.items a.found) }
 {
     let plain = replay(alloc, program, labels)?;

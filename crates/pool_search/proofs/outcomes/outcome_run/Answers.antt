@@ -1,4 +1,4 @@
-use Rattle.std.proofs.Common.{◌≡◌, ◌≤◌, ◌∙◌, ap, sym, subst, length, arith, Ok}
+use Rattle.std.proofs.Common.{◌≡◌, ◌≤◌, ◌∙◌, ◌⊎◌, ℕ, inl, inr, min, ap, sym, subst, length, arith, Ok}
 use Rattle.std.specs.Prelude.{IfSome}
 use Rattle.pool_syntax.specs.Terms.{ProgramTree}
 use Rattle.pool_syntax.specs.TreeOf.{program_of}
@@ -31,3 +31,11 @@ returns-then-len-place-clause-finite c =
       )
       | else-whole w ↦ absurd (let z : R.Over c.count-kept.result ≡ R.Finite k = sym w.result-is ∙ e in cc)
     ]
+
+-- the number of `Over` is within the bound
+within : (n k most len : ℕ) → n ≡ min len most → ((R.Over n ≡ R.Finite k) ⊎ (R.Over n ≡ R.Over k)) → k ≤ most
+within n k most len is (inl e) = absurd (cc)
+within n k most len is (inr e) = let same : n ≡ k = cc in omega (arith, is, same)
+
+pub returns-clause-within : goal.returns-clause-within
+returns-clause-within c = λ k told. within c.count-kept.result k c.args.most (length (entries c.visit_all.new.explored)) c.count-kept.ensures told

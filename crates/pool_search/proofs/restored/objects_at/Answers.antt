@@ -4,15 +4,15 @@ use Rattle.std.specs.BTreeMap.{insert_entry}
 use Rattle.std.specs.List.{slice_get}
 use Rattle.std.proofs.lemmas.Grind.{common_steps}
 use Rattle.std.proofs.lemmas.Option.{get_or_from_slice_get}
-use Rattle.search_states.specs.States.{states}
+use Rattle.object_moves.specs.Tables.{known_states}
 use Rattle.stepper_objects.specs.ObjectStates.{thing_object, things}
-use Rattle.pool_search.specs.Numbers.{no_object}
+use Rattle.object_moves.specs.Rows.{no_object}
 use Rattle.pool_search.proofs.NumberingSteps.{objects_step}
 use Rattle.pool_search.proofs.restored.objects_at.Goals as goal
 
 pub loop-i-preserved : goal.loop-i-preserved
 loop-i-preserved c =
-    let xs = states c.args.table.now in
+    let xs = known_states c.args.table.now in
     let ns = c.args.numbers.now in
     let i = c.loop-i.i in
     let t = c.in_ok-copy.field-0 in

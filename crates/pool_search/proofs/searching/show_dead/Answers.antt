@@ -48,11 +48,13 @@ returns c = λ q asked.
     }
     in
     let dead : Each (IsDead (kept_program k) last) names.items = c.in_ok-names.ensures e there (subst (λ (t : ProgramTree). IsReachedInOrder t next last) (sym same) reached) in
-    let some : 0 < vec_len names = not_empty (vec_len names) (sym c.is_empty.ensures ∙ c.if-is_empty.false) in
-    record {
-      first = first;
-      last = last;
-      starts = starts;
-      leads = led;
-      holds = record { asked = asked; some = subst (λ (n : ℕ). 0 < n) names.ok.0 some; dead = subst (λ (t : ProgramTree). Each (IsDead t last) names.items) same dead };
-    }
+    let some : 0 < vec_len names = not_empty (vec_len names) (sym c.is_empty.ensures ∙ c.if-is_empty.false) in (
+      record {
+        first = first;
+        last = last;
+        starts = starts;
+        leads = led;
+        holds = record { asked = asked; some = subst (λ (n : ℕ). 0 < n) names.ok.0 some; dead = subst (λ (t : ProgramTree). Each (IsDead t last) names.items) same dead };
+      },
+      reached.orders,
+    )

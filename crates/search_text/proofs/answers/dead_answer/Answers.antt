@@ -13,7 +13,7 @@ use Rattle.search_text.proofs.RunLaws.{one_last}
 use Rattle.search_text.proofs.answers.dead_answer.Goals as goal
 
 pub replay-requires : goal.replay-requires
-replay-requires c = let h = c.requires in record { first = h.first; last = h.last; starts = h.starts; leads = h.leads; holds = tt }
+replay-requires c = let h = c.requires.0 in record { first = h.first; last = h.last; starts = h.starts; leads = h.leads; holds = tt }
 
 pub stuck_text-requires : goal.stuck_text-requires
 stuck_text-requires c =
@@ -24,7 +24,7 @@ pub returns : goal.returns
 returns c =
     let p = program_of c.args.program.now.program.now in
     let led = c.in_ok-plain.ensures.last in
-    let last = one_last p c.args.labels.now _ _ c.requires led ∙ led.holds in
+    let last = one_last p c.args.labels.now _ _ c.requires.0 led ∙ led.holds in
     A.dead c.args.labels.now c.args.dead.now c.requires
     (c.in_ok-text.ensures ∙ ap (stuck_text c.args.names.now c.args.labels.now)
     (c.deref-2.ensures.value ∙ c.in_ok-rows.ensures

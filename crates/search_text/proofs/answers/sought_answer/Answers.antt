@@ -1,7 +1,19 @@
-use Rattle.std.proofs.Common.{◌∙◌, Ok, ap, refl}
+use Rattle.std.proofs.Common.{◌∙◌, ℕ, List, Ok, ap, refl, subst, sym}
+use Rattle.run_types.specs.declared.types.Label.{Label}
+use Rattle.pool_syntax.specs.TreeOf.{program_of}
+use Rattle.pool_search.specs.SearchTargets.{IsWantedDead, LeadsInOrder}
 use Rattle.search_text.specs.AnswerText.{fault_text}
 use Rattle.search_text.specs.Answers as A
 use Rattle.search_text.proofs.answers.sought_answer.Goals as goal
+
+pub dead_answer-requires : goal.dead_answer-requires
+dead_answer-requires c =
+    let p = program_of c.args.program.now.program.now in
+    let q = c.args.question.now in
+    let d = c.in-Ok-Dead in
+    let led = d.ensures.dead d.labels d.dead (ap Ok d.field-0-is) in
+    subst (λ (ls : List Label). LeadsInOrder p ls (IsWantedDead p q c.deref-in-Ok-Dead-2.result.now)) (sym c.deref-in-Ok-Dead.ensures.value)
+    (subst (λ (ns : List ℕ). LeadsInOrder p d.labels.items (IsWantedDead p q ns)) (sym c.deref-in-Ok-Dead-2.ensures.value) led)
 
 pub returns-in_ok-fault_text-in-Ok-Fault : goal.returns-in_ok-fault_text-in-Ok-Fault
 returns-in_ok-fault_text-in-Ok-Fault c =

@@ -11,7 +11,7 @@ use Rattle.search_text.proofs.RunLaws.{one_last}
 use Rattle.search_text.proofs.answers.stuck_answer.Goals as goal
 
 pub replay-requires : goal.replay-requires
-replay-requires c = let h = c.requires in record { first = h.first; last = h.last; starts = h.starts; leads = h.leads; holds = tt }
+replay-requires c = let h = c.requires.0 in record { first = h.first; last = h.last; starts = h.starts; leads = h.leads; holds = tt }
 
 pub stuck_text-requires : goal.stuck_text-requires
 stuck_text-requires c = subst (λ (rows : List ObjectRow). Rising (names_of rows)) (sym c.deref.ensures.value) c.in_ok-rows.ensures.rising
@@ -21,7 +21,7 @@ returns c =
     let p = program_of c.args.program.now.program.now in
     let q = c.args.question.now in
     let led = c.in_ok-plain.ensures.last in
-    let last = one_last p c.args.labels.now _ _ c.requires led ∙ led.holds in
+    let last = one_last p c.args.labels.now _ _ c.requires.0 led ∙ led.holds in
     A.stuck c.args.labels.now c.requires
     (c.in_ok-text.ensures ∙ ap (stuck_text c.args.names.now c.args.labels.now)
     (c.deref.ensures.value ∙ c.in_ok-rows.ensures.rows ∙ ap (λ (t : ProgramTree). waiting_rows q.all t (configuration_of c.in_ok-plain.plain)) c.in_ok-plain.ensures.program ∙ ap (waiting_rows q.all p) (sym last))) refl

@@ -16,7 +16,7 @@ use Rattle.pool_search.specs.Trials.{SettlesAt}
 use Rattle.pool_search.proofs.ListGrowth.{each_at, entry_grown}
 use Rattle.pool_search.proofs.RunExtension.{reached_more}
 use Rattle.pool_search.proofs.EntryExpansion.{led_at, parts_of}
-use Rattle.pool_search.proofs.explored.Explored.follow.Goals as goal
+use Rattle.pool_search.proofs.explored.Explored.follow_whole.Goals as goal
 
 pub settle_and_keep-requires-clause-reached : goal.settle_and_keep-requires-clause-reached
 settle_and_keep-requires-clause-reached c =

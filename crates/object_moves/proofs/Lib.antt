@@ -1,0 +1,12 @@
+pub mod FollowedRows
+pub mod KnownFacts
+pub mod KnownGrowth
+pub mod Laws
+pub mod OneEffect
+pub mod OptionalSteps
+pub mod RowLaws
+pub mod RowMoves
+pub mod SameObjects
+pub mod SmallConfigurations
+pub mod StateGrowth
+pub mod TwoEffect

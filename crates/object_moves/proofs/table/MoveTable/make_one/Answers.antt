@@ -1,0 +1,51 @@
+use Rattle.std.proofs.Common.{◌≡◌, ◌<◌, ap, subst, ◌∙◌, length, slice_get, [], Some, None}
+use Rattle.std.specs.Option.{IfSome}
+use Rattle.std.proofs.lemmas.List.Elements.{All-head}
+use Rattle.std.proofs.lemmas.Option.{get_or_from_slice_get, slice_get_within}
+use Rattle.pool_syntax.specs.TreeOf.{program_of}
+use Rattle.search_states.specs.States.{states}
+use Rattle.object_moves.specs.Effects.{effect_one}
+use Rattle.object_moves.specs.Known.{numbers_of_one, one_of, solo_label, state_at}
+use Rattle.object_moves.specs.Rows.{AreWithin}
+use Rattle.object_moves.specs.declared.known.One.TheVariants as O
+use Rattle.object_moves.proofs.KnownFacts.{read_at}
+use Rattle.object_moves.proofs.RowMoves.{set_within, solo_impossible, solo_leads}
+use Rattle.object_moves.proofs.table.MoveTable.make_one.Goals as goal
+
+pub returns-in-Ok-Some-Impossible-clause-impossible : goal.returns-in-Ok-Some-Impossible-clause-impossible
+returns-in-Ok-Some-Impossible-clause-impossible c = λ _.
+    let p = program_of c.args.self.now.program.now in
+    let xs = states c.args.self.now.table in
+    let ys = states c.one.new.self.table in
+    let ns = c.args.numbers.now.items in
+    let o = c.args.object in
+    let s = c.in-Some.state.now in
+    let e = solo_label o c.args.act in
+    let l = c.in-Some.ensures.lookup in
+    let there : slice_get ns o ≡ Some s = read_at c.as_slice.result.now ns o s c.as_slice.ensures.value l.3.0 l.1 in
+    let told = c.in-Ok-Some-Impossible in
+    let is : effect_one p e (state_at xs s) ≡ None = subst (λ r. IfSome r (λ m. effect_one p e (state_at xs s) ≡ one_of ys m)) (told.field-0-is ∙ ap Some told.field-0-0-is) told.ensures.is in
+    solo_impossible p xs ns o c.args.act (slice_get_within ns o s there) (ap (λ n. effect_one p e (state_at xs n)) (get_or_from_slice_get ns o s 0 there) ∙ is)
+
+pub returns-in-Ok-Some-To-clause-within : goal.returns-in-Ok-Some-To-clause-within
+returns-in-Ok-Some-To-clause-within c =
+    let xs = states c.args.self.now.table in
+    let ys = states c.one.new.self.table in
+    let told = c.in-Ok-Some-To in
+    let within : AreWithin ys (numbers_of_one (O.To told.to)) = subst (λ r. IfSome r (λ m. AreWithin ys (numbers_of_one m))) (told.field-0-is ∙ ap Some told.field-0-0-is) told.ensures.within in
+    set_within xs ys c.args.numbers.now.items told.ensures.grows c.requires.within c.args.object told.to (All-head (λ n. n < length ys) told.to [] within)
+
+pub returns-in-Ok-Some-To-clause-made : goal.returns-in-Ok-Some-To-clause-made
+returns-in-Ok-Some-To-clause-made c = λ _.
+    let p = program_of c.args.self.now.program.now in
+    let xs = states c.args.self.now.table in
+    let ys = states c.one.new.self.table in
+    let ns = c.args.numbers.now.items in
+    let o = c.args.object in
+    let s = c.in-Some.state.now in
+    let e = solo_label o c.args.act in
+    let l = c.in-Some.ensures.lookup in
+    let there : slice_get ns o ≡ Some s = read_at c.as_slice.result.now ns o s c.as_slice.ensures.value l.3.0 l.1 in
+    let told = c.in-Ok-Some-To in
+    let is : effect_one p e (state_at xs s) ≡ Some (state_at ys told.to) = subst (λ r. IfSome r (λ m. effect_one p e (state_at xs s) ≡ one_of ys m)) (told.field-0-is ∙ ap Some told.field-0-0-is) told.ensures.is in
+    solo_leads p xs ns ys o told.to c.args.act told.ensures.grows c.requires.within (slice_get_within ns o s there) (ap (λ n. effect_one p e (state_at xs n)) (get_or_from_slice_get ns o s 0 there) ∙ is)

@@ -1,0 +1,26 @@
+use Rattle.std.proofs.Common.{◌≡◌, ap, subst, ◌∙◌, slice_get, Some}
+use Rattle.std.specs.Option.{IfSome}
+use Rattle.std.proofs.lemmas.Option.{get_or_from_slice_get, slice_get_within}
+use Rattle.pool_syntax.specs.TreeOf.{program_of}
+use Rattle.search_states.specs.States.{states}
+use Rattle.object_moves.specs.Effects.{strolled}
+use Rattle.object_moves.specs.Known.{state_at}
+use Rattle.object_moves.proofs.KnownFacts.{read_at}
+use Rattle.object_moves.proofs.RowMoves.{rest_leads}
+use Rattle.object_moves.proofs.table.MoveTable.rest_in.Goals as goal
+
+pub returns-in-Ok-Some-clause-follows : goal.returns-in-Ok-Some-clause-follows
+returns-in-Ok-Some-clause-follows c = λ silent.
+    let p = program_of c.args.self.now.program.now in
+    let xs = states c.args.self.now.table in
+    let ys = states c.rest.new.self.table in
+    let ns = c.args.numbers.now.items in
+    let o = c.args.object in
+    let s = c.in-Some.state.now in
+    let l = c.in-Some.ensures.lookup in
+    let there : slice_get ns o ≡ Some s = read_at c.as_slice.result.now ns o s c.as_slice.ensures.value l.3.0 l.1 in
+    let k = c.in-Ok-Some.known in
+    let is : strolled p o k.steps (state_at xs s) ≡ Some (state_at ys k.to) =
+    subst (λ r. IfSome r (λ k. strolled p o k.steps (state_at xs s) ≡ Some (state_at ys k.to))) c.in-Ok-Some.field-0-is c.in-Ok-Some.ensures.is
+    in
+    rest_leads p xs ns ys o k.steps k.to silent c.in-Ok-Some.ensures.grows c.requires.within (slice_get_within ns o s there) (ap (λ n. strolled p o k.steps (state_at xs n)) (get_or_from_slice_get ns o s 0 there) ∙ is)

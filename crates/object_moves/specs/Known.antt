@@ -1,0 +1,79 @@
+-- What a table of moves knows: what some transitions make of states, by their numbers.
+use Rattle.std.specs.Prelude.{◌≡◌, ◌<◌, ℕ, List, [], ◌∷◌, length, Option, Some, None, true, slice_index_or}
+use Rattle.run_types.specs.declared.types.Label.{Label}
+use Rattle.run_types.specs.declared.types.Value.{Value}
+use Rattle.run_types.specs.declared.types.Label.TheVariants as L
+use Rattle.pool_syntax.specs.Terms.{ProgramTree}
+use Rattle.pool_relation.specs.Action.{Object}
+use Rattle.object_moves.specs.Effects.{effect_one, effect_two, strolled}
+use Rattle.object_moves.specs.Rows.{no_object, AreWithin}
+use Rattle.object_moves.specs.SameObjects.{same_one, same_two}
+use Rattle.object_moves.specs.declared.known.Solo.{Solo}
+use Rattle.object_moves.specs.declared.known.Solo.TheVariants as S
+use Rattle.object_moves.specs.declared.known.Duo.{Duo}
+use Rattle.object_moves.specs.declared.known.One.{One}
+use Rattle.object_moves.specs.declared.known.One.TheVariants as O
+use Rattle.object_moves.specs.declared.known.Two.{Two}
+use Rattle.object_moves.specs.declared.known.Two.TheVariants as W
+use Rattle.object_moves.specs.declared.known.KnownOne.{KnownOne}
+use Rattle.object_moves.specs.declared.known.KnownTwo.{KnownTwo}
+use Rattle.object_moves.specs.declared.known.KnownRest.{KnownRest}
+
+-- the label of a transition that the object o makes alone
+abbrev pub solo_label : ℕ → Solo → Label
+solo_label o (S.Write item) = L.Write o item
+solo_label o (S.Pick i) = L.Pick o i
+solo_label o (S.Fault e) = L.Fault o e
+
+-- the label of an answer, or of the return of this value
+abbrev pub labelled : ℕ → ℕ → Duo → Option Value → Label
+labelled b o a None = L.Answer b o a.method a.args
+labelled b o a (Some v) = L.Return b o v
+
+-- the label of a transition of the receiver b and the caller o
+abbrev pub duo_label : ℕ → ℕ → Duo → Label
+duo_label b o a = labelled b o a a.returned
+
+-- the object with this number
+abbrev pub state_at : List Object → ℕ → Object
+state_at xs n = slice_index_or xs n no_object
+
+-- the object that this tells
+abbrev pub one_of : List Object → One → Option Object
+one_of xs O.Impossible = None
+one_of xs (O.To n) = Some (state_at xs n)
+
+-- its number
+abbrev pub numbers_of_one : One → List ℕ
+numbers_of_one O.Impossible = []
+numbers_of_one (O.To n) = n ∷ []
+
+-- the receiver and the caller that this tells
+abbrev pub two_of : List Object → Two → Option (Object × Object)
+two_of xs W.Impossible = None
+two_of xs (W.To n m) = Some (state_at xs n, state_at xs m)
+
+-- their numbers
+abbrev pub numbers_of_two : Two → List ℕ
+numbers_of_two W.Impossible = []
+numbers_of_two (W.To n m) = n ∷ m ∷ []
+
+module _ (p : ProgramTree) (xs : List Object) where
+  -- what is known of a transition of one object is so
+  pub record IsKnownOne (k : KnownOne) : Type 0 where
+    pub state : k.state < length xs
+    pub within : AreWithin xs (numbers_of_one k.to)
+    pub is : same_one (effect_one p (solo_label k.object k.act) (state_at xs k.state)) (one_of xs k.to) ≡ true
+
+  -- what is known of a transition of two objects is so
+  pub record IsKnownTwo (k : KnownTwo) : Type 0 where
+    pub serving : k.pair.serving < length xs
+    pub asking : k.pair.asking < length xs
+    pub within : AreWithin xs (numbers_of_two k.to)
+    pub is : same_two (effect_two p (duo_label k.pair.receiver k.pair.caller k.act) (state_at xs k.pair.serving) (state_at xs k.pair.asking)) (two_of xs k.to) ≡ true
+
+  -- local transitions lead there
+  pub record IsKnownRest (k : KnownRest) : Type 0 where
+    pub state : k.state < length xs
+    pub within : k.to < length xs
+    pub leads : same_one (strolled p k.object k.steps (state_at xs k.state)) (Some (state_at xs k.to)) ≡ true

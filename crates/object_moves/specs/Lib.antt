@@ -1,0 +1,7 @@
+-- Internal: what it does not.
+pub mod Effects
+pub mod Followed
+pub mod Known
+pub mod Rows
+pub mod SameObjects
+pub mod Tables
