@@ -6,4 +6,6 @@
 
 mod plain;
 
-pub use plain::{Mail, Plain, Refuse, State, Waiting, agent};
+pub use plain::{
+    Mail, Plain, Refuse, State, Waiting, agent, post, push_labels, redex_args, unpost,
+};

@@ -16,9 +16,11 @@ ghost use Rattle.pool_semantics.specs.Plains.{configuration};
 ghost use Rattle.pool_semantics.specs.Sound.{Sound};
 ghost use Rattle.pool_relation.specs.Progress.{agent};
 
-pub use crate::plain::mail::Mail;
+pub use crate::plain::labels::push_labels;
+pub use crate::plain::mail::{Mail, post, unpost};
 use crate::plain::moving::lesser;
 use crate::plain::objects::add;
+pub use crate::plain::redex::redex_args;
 pub use crate::plain::state::State;
 pub use crate::plain::waits::Waiting;
 use class_check::Checked;

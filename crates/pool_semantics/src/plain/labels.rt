@@ -9,6 +9,7 @@ ghost use Rattle.reachability.specs.Labels.{own_labels, object_labels, message_l
 ghost use Rattle.reachability.specs.Search.{needs_no_choice};
 ghost use Rattle.stepper_terms.specs.Arguments.{now_args, now_names, now_choices};
 ghost use Rattle.stepper_objects.specs.Acts.{acted};
+ghost use Rattle.stepper_objects.specs.ObjectStates.{thing_object};
 ghost use Rattle.pool_semantics.specs.Mails.{queued};
 ghost use Rattle.pool_semantics.specs.PlainOf.{configuration_of, program_tree, is_spent};
 ghost use Rattle.pool_semantics.specs.Plains.{configuration};
@@ -19,11 +20,13 @@ ghost use Rattle.pool_semantics.specs.SearchQueries.{free_label, free_at, silent
 use crate::plain::Plain;
 use crate::plain::mail::Mail;
 use crate::plain::redex::redex_args;
-use crate::plain::state::State;
+use crate::plain::state::{State, next_act};
+use pool_syntax::Program;
 use run_types::Label;
 use std::alloc::AllocError;
 use std::collections::VecDeque;
 use stepper_objects::act::Act;
+use stepper_objects::object_state::ObjectState;
 use stepper_terms::contexts::{Continuation, Focus, Task};
 
 /// The label of this action, if it needs no choice.
@@ -137,6 +140,22 @@ fn push_takes(
         at += 1;
     }
     Ok(())
+}
+
+/// Adds the labels of this object's next action. The object is in a typed configuration of the program. A new object
+/// gets the name `name`. Reports `AllocError` if memory runs out.
+pub fn push_labels<'a>(
+    program: &'a Program,
+    object: u32,
+    thing: &ObjectState<'a>,
+    name: u32,
+    into: &mut Vec<Label>,
+) -> Result<(), AllocError>
+    requires { (c : Configuration) × Sound (program_of program.now) c × (object_of c object ≡ Some (thing_object thing.now)) }
+    ensures { OnOk result (into.new.items ≡ into.old.items ++ own_labels name object (action (program_of program.now) object (thing_object thing.now))) }
+{
+    let (work, act) = next_act(program, object, thing);
+    push_own(into, name, object, work, &act)
 }
 
 impl<'a> State<'a> {

@@ -25,6 +25,7 @@ use stepper_objects::change::Change;
 use stepper_objects::lookup::find_class;
 use stepper_objects::object_state::ObjectState;
 use stepper_objects::offers::plain_alt;
+use stepper_terms::contexts::Continuation;
 
 /// A configuration of this program. `messages` is by sender and receiver, and a pair without messages has no entry.
 #[derive(Drop)]
@@ -33,6 +34,19 @@ pub struct State<'a> {
     pub program: &'a Program,
     pub objects: BTreeMap<u32, ObjectState<'a>>,
     pub messages: BTreeMap<(u32, u32), VecDeque<Mail>>,
+}
+
+/// The next action of the object of this name.
+pub fn next_act<'a, 'b>(
+    program: &'a Program,
+    object: u32,
+    thing: &'b ObjectState<'a>,
+) -> (&'b Continuation<'a>, Act<'a>)
+    ensures work { result.0.now ≡ thing.now.work }
+    ensures act { action (program_of program.now) object (thing_object thing.now)
+        ≡ acted (thing_object thing.now) (now_args thing.now.work.next) (now_names thing.now.work.next) (now_choices thing.now.work.next) result.1 }
+{
+    (&thing.work, thing.act(program, object))
 }
 
 impl<'a> State<'a> {
