@@ -8,15 +8,12 @@ use Rattle.std.specs.declared.cmp.Ordering.{Ordering}
 use Rattle.std.specs.declared.cmp.Ordering.TheVariants.{Less, Equal, Greater}
 use Rattle.std.specs.FinMap.{nat_cmp-IsAntisymmetric}
 use Rattle.std.specs.FinMap.Entries.{find}
-use Rattle.std.specs.declared.collections.VecDeque.{VecDeque}
-use Rattle.std.specs.Global.{Global}
 use Rattle.run_types.specs.declared.types.Error.{Error}
 use Rattle.run_types.specs.declared.types.Label.{Label}
 use Rattle.run_types.specs.declared.types.Value.{Value}
 use Rattle.run_types.specs.Message.{Message}
-use Rattle.run_types.specs.Tables.{Pair, pair_cmp}
-use Rattle.run_types.proofs.Laws.{same_some, differ, neither}
-use Rattle.pool_syntax.specs.TreeOf.{program_of}
+use Rattle.run_types.specs.Tables.{Each, Pair, pair_cmp}
+use Rattle.run_types.proofs.Laws.{same_some, differ, neither, one_pair}
 use Rattle.pool_syntax.specs.Terms.{ProgramTree}
 use Rattle.pool_relation.specs.Action.{Object, action}
 use Rattle.pool_relation.specs.Configuration.{Configuration, object_of}
@@ -25,13 +22,9 @@ use Rattle.reachability.specs.Search.{IsInOrder}
 use Rattle.search_laws.specs.Renamed.{renamed_value, renamed_message, renamed_object}
 use Rattle.search_laws.specs.Stubborn.{IsAwaited, exchanged, is_served, serves, waits_for}
 use Rattle.stepper_objects.specs.declared.object_state.ObjectState.{ObjectState}
-use Rattle.stepper_objects.specs.ObjectStates.{thing_object, things}
-use Rattle.pool_semantics.specs.declared.plain.mail.Mail.{Mail}
-use Rattle.pool_semantics.specs.declared.plain.state.State.{State}
-use Rattle.pool_semantics.specs.Mails.{message_of}
-use Rattle.pool_semantics.specs.Plains.{configuration}
+use Rattle.stepper_objects.specs.ObjectStates.{thing_object}
 use Rattle.known_names.specs.OtherNames.{object_is_other, value_is_other}
-use Rattle.known_names.specs.Awaited.{are_objects_fit, are_queues_fit, awaits, is_mail_other, is_object_fit, is_queue_fit, is_serving}
+use Rattle.known_names.specs.Awaited.{IsFit, awaits, is_message_other, is_queue_fit, is_serving, is_state_fit}
 use Rattle.known_names.proofs.SameUnderNames.{object_same, value_same}
 
 -- a disjunction whose first part fails
@@ -43,40 +36,16 @@ no_fault : (f : Option Error) → is_none f ≡ true → f ≡ None
 no_fault None h = refl
 no_fault (Some e) h = absurd (grind (arith, h))
 
--- an entry of a map whose value is y under f, where all entries pass the test
-record IsEntry {K X Y : Type 0} (R : K → K → Ordering) (f : X → Y) (test : K → X → Bool) (k : K) (y : Y) : Type 0 where
-  key : K
-  value : X
-  tied : R k key ≡ Equal
-  is : f value ≡ y
-  passes : test key value ≡ true
-
-entry_of : {K X Y : Type 0} (R : K → K → Ordering) (f : X → Y) (test : K → X → Bool) (k : K) (y : Y) (es : List (K × X)) → list_all (λ (e : K × X). test e.0 e.1) es ≡ true
-    → find R k (map (λ (e : K × X). (e.0, f e.1)) es) ≡ Some y → IsEntry R f test k y
-entry_of R f test k y [] h e = absurd (cc)
-entry_of {K = K} {X = X} R f test k y (j ∷ es) h e =
-    let both = and_parts (test j.0 j.1) (list_all (λ (i : K × X). test i.0 i.1) es) h in
-    by (R k j.0) refl e both.0 (entry_of R f test k y es both.1)
+-- what holds of each entry of a map holds of a key and the value under it
+entry_of : {K X : Type 0} (R : K → K → Ordering) → ((k j : K) → R k j ≡ Equal → k ≡ j) → (P : K → X → Type 0) (es : List (K × X)) → Each (λ (e : K × X). P e.0 e.1) es
+    → (k : K) (x : X) → find R k es ≡ Some x → P k x
+entry_of R one P [] h k x e = absurd (cc)
+entry_of R one P (j ∷ es) h k x e = by (R k j.0) refl e (entry_of R one P es h.1 k x)
   where
-    by : (r : Ordering) → R k j.0 ≡ r → cond (is_eq (R k j.0)) (Some (f j.1)) (find R k (map (λ (i : K × X). (i.0, f i.1)) es)) ≡ Some y → test j.0 j.1 ≡ true
-        → (find R k (map (λ (i : K × X). (i.0, f i.1)) es) ≡ Some y → IsEntry R f test k y) → IsEntry R f test k y
-    by Less a i t rest = rest (sym (ap (λ r. cond (is_eq r) (Some (f j.1)) (find R k (map (λ (i : K × X). (i.0, f i.1)) es))) a) ∙ i)
-    by Greater a i t rest = rest (sym (ap (λ r. cond (is_eq r) (Some (f j.1)) (find R k (map (λ (i : K × X). (i.0, f i.1)) es))) a) ∙ i)
-    by Equal a i t rest = record {
-      key = j.0;
-      value = j.1;
-      tied = a;
-      is = same_some (sym (ap (λ r. cond (is_eq r) (Some (f j.1)) (find R k (map (λ (i : K × X). (i.0, f i.1)) es))) a) ∙ i);
-      passes = t;
-    }
-
-second_tied : (x y : Pair) → pair_cmp x y ≡ Equal → x.1 ≡ y.1
-second_tied x y h = by (nat_cmp x.0 y.0) refl
-  where
-    by : (r : Ordering) → nat_cmp x.0 y.0 ≡ r → x.1 ≡ y.1
-    by Less a = absurd (let q : Less ≡ Equal = rw a at h in cc)
-    by Greater a = absurd (let q : Greater ≡ Equal = rw a at h in cc)
-    by Equal a = nat_cmp-IsAntisymmetric x.1 y.1 (rw a at h)
+    by : (r : Ordering) → R k j.0 ≡ r → cond (is_eq r) (Some j.1) (find R k es) ≡ Some x → (find R k es ≡ Some x → P k x) → P k x
+    by Less t i rest = rest i
+    by Greater t i rest = rest i
+    by Equal t i rest = subst (λ q. P q x) (sym (one k j.0 t)) (subst (P j.0) (same_some i) h.0)
 
 -- what is known of b
 record IsThere (p : ProgramTree) (b : ℕ) (o : Option Object) : Type 0 where
@@ -118,18 +87,16 @@ module _ (n b z : ℕ) (le : n ≤ z) where
       let both = and_parts (value_is_other n b v) (list_all (value_is_other n b) vs) h in
       ap (λ w. w ∷ map (renamed_value (exchanged b z)) vs) (value_same (exchanged b z) n b keeps v both.0) ∙ ap (λ ws. v ∷ ws) (args_same vs both.1)
 
-  message_same : (m : Mail) → is_mail_other n b m ≡ true → renamed_message (exchanged b z) (message_of m) ≡ message_of m
-  message_same m h =
-      let sent : List Value → Message = λ vs. record { method = m.method.0; args = vs } in
-      ap sent (args_same m.args h)
+  message_same : (m : Message) → is_message_other n b m ≡ true → renamed_message (exchanged b z) m ≡ m
+  message_same m h = ap (λ vs. record m { args = vs }) (args_same m.args h)
 
-  messages_same : (ms : List Mail) → list_all (is_mail_other n b) ms ≡ true → map (renamed_message (exchanged b z)) (map message_of ms) ≡ map message_of ms
+  messages_same : (ms : List Message) → list_all (is_message_other n b) ms ≡ true → map (renamed_message (exchanged b z)) ms ≡ ms
   messages_same [] h = refl
   messages_same (m ∷ ms) h =
-      let both = and_parts (is_mail_other n b m) (list_all (is_mail_other n b) ms) h in
-      ap (λ w. w ∷ map (renamed_message (exchanged b z)) (map message_of ms)) (message_same m both.0) ∙ ap (λ ws. message_of m ∷ ws) (messages_same ms both.1)
+      let both = and_parts (is_message_other n b m) (list_all (is_message_other n b) ms) h in
+      ap (λ w. w ∷ map (renamed_message (exchanged b z)) ms) (message_same m both.0) ∙ ap (λ ws. m ∷ ws) (messages_same ms both.1)
 
-  fit_same : (p : ProgramTree) (q : ℕ) (t : ObjectState) → is_object_fit p n b q t ≡ true → (q == b || awaits p b q (Some (thing_object t))) ≡ false
+  fit_same : (p : ProgramTree) (q : ℕ) (t : ObjectState) → is_state_fit p n b q t ≡ true → (q == b || awaits p b q (Some (thing_object t))) ≡ false
       → StaysSame (exchanged b z) q (thing_object t)
   fit_same p q t h out =
       let both = and_parts (nat_lt q n) (object_is_other n b t) (other_part (q == b || awaits p b q (Some (thing_object t))) (nat_lt q n && object_is_other n b t) h out) in
@@ -138,37 +105,28 @@ module _ (n b z : ℕ) (le : n ≤ z) where
         name = keeps q (ltb-true q n both.0) (neither (q == b) (awaits p b q (Some (thing_object t))) out).0;
       }
 
-  object_stays : (p : ProgramTree) (es : List (ℕ × ObjectState)) → are_objects_fit p n b es ≡ true → (q : ℕ) (x : Object) → (q == b || awaits p b q (Some x)) ≡ false
-      → find nat_cmp q (things es) ≡ Some x → StaysSame (exchanged b z) q x
-  object_stays p es h q x out e =
-      let i = entry_of nat_cmp thing_object (is_object_fit p n b) q x es h e in
-      let at : q ≡ i.key = nat_cmp-IsAntisymmetric q i.key i.tied in
-      let fit : is_object_fit p n b q i.value ≡ true = subst (λ k. is_object_fit p n b k i.value ≡ true) (sym at) i.passes in
-      subst (StaysSame (exchanged b z) q) i.is (fit_same p q i.value fit (ap (λ y. q == b || awaits p b q (Some y)) i.is ∙ out))
+  module _ (p : ProgramTree) (c : Configuration) where
+    object_stays : Each (λ (e : ℕ × Object). IsFit p n b e.0 e.1) c.objects → (q : ℕ) (x : Object) → (q == b || awaits p b q (object_of c q)) ≡ false → object_of c q ≡ Some x
+        → StaysSame (exchanged b z) q x
+    object_stays h q x out e =
+        let fit = entry_of nat_cmp nat_cmp-IsAntisymmetric (IsFit p n b) c.objects h q x e in
+        let here : object_of c q ≡ Some (thing_object fit.0) = e ∙ ap Some (sym fit.1) in
+        subst (StaysSame (exchanged b z) q) fit.1 (fit_same p q fit.0 fit.2 (ap (λ o. q == b || awaits p b q o) (sym here) ∙ out))
 
-  messages_stay : (p : ProgramTree) (c : Configuration) (es : List (Pair × VecDeque Mail Global)) → are_queues_fit p n b c es ≡ true → (s r : ℕ) → (r == b || awaits p b r (object_of c r)) ≡ false
-      → (o : Option (List Message)) → find pair_cmp (s, r) (map (λ (e : Pair × VecDeque Mail Global). (e.0, map message_of e.1.items)) es) ≡ o
-      → map (renamed_message (exchanged b z)) (unwrap_or o []) ≡ unwrap_or o []
-  messages_stay p c es h s r out None e = refl
-  messages_stay p c es h s r out (Some ms) e =
-      let sent : VecDeque Mail Global → List Message = λ q. map message_of q.items in
-      let test : Pair → VecDeque Mail Global → Bool = λ k q. is_queue_fit p n b c k.1 q in
-      let i = entry_of pair_cmp sent test (s, r) ms es h e in
-      let at : r ≡ i.key.1 = second_tied (s, r) i.key i.tied in
-      let fit : is_queue_fit p n b c r i.value ≡ true = subst (λ k. is_queue_fit p n b c k i.value ≡ true) (sym at) i.passes in
-      let same = messages_same i.value.items (other_part (r == b || awaits p b r (object_of c r)) (list_all (is_mail_other n b) i.value.items) fit out) in
-      subst (λ (ws : List Message). map (renamed_message (exchanged b z)) ws ≡ ws) i.is same
+    messages_stay : Each (λ (e : Pair × List Message). is_queue_fit p n b c e.0.1 e.1 ≡ true) c.messages → (s r : ℕ) → (r == b || awaits p b r (object_of c r)) ≡ false
+        → (o : Option (List Message)) → find pair_cmp (s, r) c.messages ≡ o → map (renamed_message (exchanged b z)) (unwrap_or o []) ≡ unwrap_or o []
+    messages_stay h s r out None e = refl
+    messages_stay h s r out (Some ms) e =
+        let fit = entry_of pair_cmp one_pair (λ k ms. is_queue_fit p n b c k.1 ms ≡ true) c.messages h (s, r) ms e in
+        messages_same ms (other_part (r == b || awaits p b r (object_of c r)) (list_all (is_message_other n b) ms) fit out)
 
-pub only_awaited : (n b : ℕ) (s : State) → b < n → is_serving (program_of s.program.now) b (object_of (configuration s) b) ≡ true
-    → are_objects_fit (program_of s.program.now) n b s.objects.entries ≡ true → are_queues_fit (program_of s.program.now) n b (configuration s) s.messages.entries ≡ true
-    → IsInOrder (configuration s) → (l : Label) (d : Configuration) → is_served b l ≡ true → transition (program_of s.program.now) (configuration s) l ≡ Some d
-    → IsAwaited (program_of s.program.now) n b (configuration s)
-only_awaited n b s lt here objects queues sorted l d own step =
-    let p = program_of s.program.now in
-    let c = configuration s in
+pub only_awaited : (p : ProgramTree) (n b : ℕ) (c : Configuration) → b < n → is_serving p b (object_of c b) ≡ true
+    → Each (λ (e : ℕ × Object). IsFit p n b e.0 e.1) c.objects
+    → Each (λ (e : Pair × List Message). is_queue_fit p n b c e.0.1 e.1 ≡ true) c.messages
+    → IsInOrder c → (l : Label) (d : Configuration) → is_served b l ≡ true → transition p c l ≡ Some d
+    → IsAwaited p n b c
+only_awaited p n b c lt here objects queues sorted l d own step =
     let i = is_there p b (object_of c b) here in
-    let stays : (z : ℕ) → n ≤ z → (q : ℕ) (x : Object) → (q == b || awaits p b q (object_of c q)) ≡ false → object_of c q ≡ Some x → StaysSame (exchanged b z) q x =
-    λ z le q x out e. object_stays n b z le p s.objects.entries objects q x (ap (λ o. q == b || awaits p b q o) (sym e) ∙ out) e in
     record {
       in_order = sorted;
       below = lt;
@@ -180,9 +138,9 @@ only_awaited n b s lt here objects queues sorted l d own step =
       present = λ q h. is_present p b q (object_of c q) h;
       waits = λ q x h e f. does_wait p b q (object_of c q) x h e f;
       unknown = λ z le. record {
-        objects = λ q x out e. (stays z le q x out e).object;
-        names = λ q x out e. (stays z le q x out e).name;
-        messages = λ t r out. messages_stay n b z le p c s.messages.entries queues t r out (find pair_cmp (t, r) c.messages) refl;
+        objects = λ q x out e. (object_stays n b z le p c objects q x out e).object;
+        names = λ q x out e. (object_stays n b z le p c objects q x out e).name;
+        messages = λ t r out. messages_stay n b z le p c queues t r out (find pair_cmp (t, r) c.messages) refl;
       };
       one = l;
       to = d;

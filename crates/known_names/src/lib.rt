@@ -1,4 +1,4 @@
-//! The names of objects in a state or in a message, and whether only objects that wait for an object know its name.
+//! The names of objects in a state or in a message, and whether an object waits for another one or does not know it.
 //!
 //! Does not know: how a search stores or visits configurations.
 #![tactic(auto)]
@@ -7,5 +7,5 @@ mod awaited;
 mod names;
 pub mod theorems;
 
-pub use awaited::is_only_awaited;
+pub use awaited::{awaits, is_calling, is_fit, is_mail_other, is_serving};
 pub use names::{OtherNames, are_values_other};
