@@ -76,11 +76,11 @@ next N.Over = tt
 
 outer : (o : SuspendedCall) → EqualOuter o o
 outer (O.Expression ks s gs) = (each EqualPlace place ks.items, slot s, each EqualSegment segment gs.items)
-outer (O.Statement k gs) = (refl, each EqualSegment segment gs.items)
+outer (O.Statement k gs) = each EqualSegment segment gs.items
 
 stage : (s : Stage) → EqualStage s s
 stage (A.Body e a) = (refl, refl)
 stage (A.Post v) = refl
 
 pub itself : (t : ObjectState) → EqualThing t t
-itself t = (refl, refl, (each EqualCall (λ a. (outer a.outer, refl, refl, stage a.stage)) t.work.calls.items, next t.work.next), refl)
+itself t = (refl, refl, (each EqualCall (λ a. (outer a.outer, refl, refl, refl, stage a.stage)) t.work.calls.items, next t.work.next), refl)

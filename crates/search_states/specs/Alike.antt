@@ -7,7 +7,7 @@ use Rattle.stepper_terms.specs.declared.contexts.StatementContext.{StatementCont
 use Rattle.stepper_terms.specs.declared.contexts.SuspendedCall.{SuspendedCall}
 use Rattle.stepper_terms.specs.declared.contexts.Stage.{Stage}
 use Rattle.stepper_terms.specs.declared.contexts.Activation.{Activation}
-use Rattle.stepper_terms.specs.Parts.{placed, nested, guarded, slotted, caller_at, caller_of, around, inside, wrapped, layers, Content}
+use Rattle.stepper_terms.specs.Parts.{placed, nested, guarded, slotted, caller_of, around, inside, wrapped, layers, Content}
 
 -- one context of an expression, and nested contexts
 abbrev pub AlikePlace : ExpressionContext → ExpressionContext → Type 0
@@ -24,13 +24,15 @@ AlikeGuards gs hs = (alts : Alternatives) → guarded gs alts ≡ guarded hs alt
 abbrev pub AlikeSlot : StatementContext → StatementContext → Type 0
 AlikeSlot s t = (ss : Statements) (e : Expression) → slotted s ss e ≡ slotted t ss e
 
--- the suspended caller of a method, the stage of the method, and its activation
+-- the suspended caller of a method, if the method serves the same caller
 abbrev pub AlikeOuter : SuspendedCall → SuspendedCall → Type 0
-AlikeOuter o q = (caller_at o ≡ caller_at q) × ((k : Option ℕ) (m : ℕ) (t : Store) (b : Statements × Expression × Statements) → around o k m t b ≡ around q k m t b)
+AlikeOuter o q = (k : Option ℕ) (m : ℕ) (t : Store) (b : Statements × Expression × Statements) → around o k m t b ≡ around q k m t b
 
+-- the stage of a method, if it serves the same caller
 abbrev pub AlikeStage : Stage → Stage → Type 0
-AlikeStage s t = (o q : SuspendedCall) → caller_at o ≡ caller_at q → (caller_of s o ≡ caller_of t q) × ((c : Content) → inside o s c ≡ inside q t c)
+AlikeStage s t = (o q : SuspendedCall) → caller_of s o ≡ caller_of t q → (c : Content) → inside o s c ≡ inside q t c
 
+-- the activation of a method
 abbrev pub AlikeCall : Activation → Activation → Type 0
 AlikeCall a b = (c : Content) → wrapped a c ≡ wrapped b c
 

@@ -1,5 +1,6 @@
 -- When two parts of a work are equal, part by part.
--- Only the addresses of their lists and of the program text may differ.
+-- Only the addresses of their lists and of the program text may differ, and the stored callers of methods whose post
+-- statements are under way.
 use Rattle.std.specs.Prelude.{◌≡◌, List, [], ◌∷◌}
 use Rattle.pool_syntax.specs.TreeOf.{alternatives_of, expression_of, expressions_of, statements_of}
 use Rattle.stepper_terms.specs.declared.contexts.ExpressionContext.{ExpressionContext}
@@ -21,6 +22,7 @@ use Rattle.stepper_terms.specs.declared.contexts.Stage.{Stage}
 use Rattle.stepper_terms.specs.declared.contexts.Stage.TheVariants as A
 use Rattle.stepper_terms.specs.declared.contexts.Activation.{Activation}
 use Rattle.stepper_terms.specs.declared.contexts.Continuation.{Continuation}
+use Rattle.stepper_terms.specs.Parts.{caller_of}
 use Rattle.stepper_objects.specs.declared.object_state.ObjectState.{ObjectState}
 
 -- lists of the same length with related items
@@ -90,9 +92,10 @@ EqualNow (N.Value v) (N.Value w) = v ≡ w
 EqualNow N.Over N.Over = Unit {0}
 EqualNow _ _ = ⊥
 
+-- The stored callers may differ: EqualCall compares the callers.
 abbrev pub EqualOuter : SuspendedCall → SuspendedCall → Type 0
 EqualOuter (O.Expression ks s gs) (O.Expression js t hs) = Paired EqualPlace ks.items js.items × EqualSlot s t × Paired EqualSegment gs.items hs.items
-EqualOuter (O.Statement k gs) (O.Statement j hs) = (k ≡ j) × Paired EqualSegment gs.items hs.items
+EqualOuter (O.Statement k gs) (O.Statement j hs) = Paired EqualSegment gs.items hs.items
 EqualOuter _ _ = ⊥
 
 abbrev pub EqualStage : Stage → Stage → Type 0
@@ -100,8 +103,9 @@ EqualStage (A.Body e a) (A.Body f b) = (expression_of e.now ≡ expression_of f.
 EqualStage (A.Post v) (A.Post w) = v ≡ w
 EqualStage _ _ = ⊥
 
+-- The callers are those that the methods serve. Post statements serve none.
 abbrev pub EqualCall : Activation → Activation → Type 0
-EqualCall a b = EqualOuter a.outer b.outer × (a.method ≡ b.method) × (a.temps.items ≡ b.temps.items) × EqualStage a.stage b.stage
+EqualCall a b = EqualOuter a.outer b.outer × (caller_of a.stage a.outer ≡ caller_of b.stage b.outer) × (a.method ≡ b.method) × (a.temps.items ≡ b.temps.items) × EqualStage a.stage b.stage
 
 abbrev pub EqualWork : Continuation → Continuation → Type 0
 EqualWork w v = Paired EqualCall w.calls.items v.calls.items × EqualNow w.next v.next

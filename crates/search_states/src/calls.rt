@@ -77,6 +77,7 @@ fn same_caller(left: Option<u32>, right: Option<u32>) -> bool
     }
 }
 
+// The stored caller is not compared. `same_call` compares the callers that the methods serve.
 fn same_outer(outer: &SuspendedCall<'_>, other: &SuspendedCall<'_>) -> bool
     ensures same { result ≡ true → AlikeOuter outer.now other.now }
     ensures different { EqualOuter outer.now other.now → result ≡ true }
@@ -94,10 +95,9 @@ fn same_outer(outer: &SuspendedCall<'_>, other: &SuspendedCall<'_>) -> bool
                 && same_slot(slot, s)
                 && same_rest(rest.as_slice(), r.as_slice())
         }
-        (
-            SuspendedCall::Statement { caller, rest },
-            SuspendedCall::Statement { caller: c, rest: r },
-        ) => { same_caller(*caller, *c) && same_rest(rest.as_slice(), r.as_slice()) }
+        (SuspendedCall::Statement { rest, .. }, SuspendedCall::Statement { rest: r, .. }) => {
+            same_rest(rest.as_slice(), r.as_slice())
+        }
         _ => false,
     }
 }
@@ -120,6 +120,7 @@ fn same_call(call: &Activation<'_>, other: &Activation<'_>) -> bool
     ensures different { EqualCall call.now other.now → result ≡ true }
 {
     call.method.0 == other.method.0
+        && same_caller(call.caller(), other.caller())
         && same_bindings(call.temps.as_slice(), other.temps.as_slice())
         && same_stage(&call.stage, &other.stage)
         && same_outer(&call.outer, &other.outer)

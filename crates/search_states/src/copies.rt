@@ -1,7 +1,7 @@
 //! Copies of objects. A copy shares the program text with its original.
 ghost use Rattle.std.specs.Prelude.{◌≡◌, IfOk};
 ghost use Rattle.stepper_objects.specs.ObjectStates.{thing_object};
-ghost use Rattle.stepper_terms.specs.Parts.{left, ready, segment, stopped, task, term_of};
+ghost use Rattle.stepper_terms.specs.Parts.{caller_at, left, ready, segment, stopped, task, term_of};
 ghost use Rattle.search_states.specs.Alike.{AlikeCall, AlikeCalls, AlikeOuter, AlikePlace, AlikePlaces, AlikeSlot};
 
 use std::alloc::{AllocError, Global};
@@ -244,7 +244,8 @@ fn copied_outer<'a>(
     alloc: Global,
     outer: &SuspendedCall<'a>,
 ) -> Result<SuspendedCall<'a>, AllocError>
-    ensures { IfOk result (λ o. AlikeOuter o outer.now) }
+    ensures outer { IfOk result (λ o. AlikeOuter o outer.now) }
+    ensures caller { IfOk result (λ o. caller_at o ≡ caller_at outer.now) }
 {
     match outer {
         SuspendedCall::Expression { places, slot, rest } => {

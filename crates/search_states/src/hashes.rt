@@ -200,17 +200,15 @@ fn mark_outer(outer: &SuspendedCall<'_>, state_hash: &mut FoldHasher) {
             mark_slot(slot, state_hash);
             mark_rest(rest.as_slice(), state_hash);
         }
-        SuspendedCall::Statement { caller, rest } => {
-            if let Some(name) = caller {
-                state_hash.write_u32(*name);
-            }
-            mark_rest(rest.as_slice(), state_hash);
-        }
+        SuspendedCall::Statement { rest, .. } => mark_rest(rest.as_slice(), state_hash),
     }
 }
 
 fn mark_call(call: &Activation<'_>, state_hash: &mut FoldHasher) {
     state_hash.write_u32(call.method.0);
+    if let Some(name) = call.caller() {
+        state_hash.write_u32(name);
+    }
     mark_bindings(call.temps.as_slice(), state_hash);
     match call.stage {
         Stage::Body { post, .. } => state_hash.write_usize(post.len()),
