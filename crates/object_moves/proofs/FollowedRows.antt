@@ -1,5 +1,5 @@
 -- Local transitions of one object are followed, in any configuration.
-use Rattle.std.proofs.Common.{◌≡◌, refl, ap, subst, ◌∙◌, ℕ, zero, suc, List, [], ◌∷◌, Some, Bool, true, false, arith}
+use Rattle.std.proofs.Common.{◌≡◌, refl, ap, subst, ◌∙◌, ℕ, zero, suc, List, [], ◌∷◌, ◌++◌, Some, Bool, true, false, arith}
 use Rattle.std.specs.Ordering.{nat_cmp}
 use Rattle.std.specs.declared.cmp.Ordering.{Ordering}
 use Rattle.std.specs.declared.cmp.Ordering.TheVariants.{Less, Equal, Greater}
@@ -15,9 +15,10 @@ use Rattle.pool_relation.specs.Configuration.{Configuration, object_of, put_obje
 use Rattle.pool_relation.specs.Transition.{transition}
 use Rattle.search_laws.specs.Tried.{Course, Follows, Stays, GoesBy}
 use Rattle.object_moves.specs.Effects.{local_move, strolled}
-use Rattle.object_moves.specs.Followed.{course}
-use Rattle.object_moves.specs.Known.{duo_label, labelled}
+use Rattle.object_moves.specs.Followed.{course, passes}
+use Rattle.object_moves.specs.Known.{duo_label, labelled, moved_by, parcel_label}
 use Rattle.object_moves.specs.declared.known.Duo.{Duo}
+use Rattle.object_moves.specs.declared.known.Parcel.{Parcel}
 use Rattle.object_moves.proofs.OneEffect.{local_here}
 
 put_twice : (o : ℕ) (y z : Object) (es : List (ℕ × Object)) → put nat_cmp o z (put nat_cmp o y es) ≡ put nat_cmp o z es
@@ -47,6 +48,13 @@ return_followed s b o a v e = ap (λ r. (course s).follows (labelled b o a r)) e
     by true = refl
     by false = refl
 
+pub send_followed : (s : Bool) (o : ℕ) (a : Parcel) → a.takes ≡ false → (course s).follows (parcel_label o a) ≡ true
+send_followed s o a e = ap (λ t. (course s).follows (moved_by o a t)) e ∙ by s
+  where
+    by : (s : Bool) → (course s).follows (L.Send o a.other a.method a.args) ≡ true
+    by true = refl
+    by false = refl
+
 module _ (p : ProgramTree) (k : Course) where
   pub follows_more : (c d e : Configuration) (l : Label) → Follows p k c d → k.follows l ≡ true → transition p d l ≡ Some e → Follows p k c e
   follows_more c d e l Stays kind step = GoesBy l kind step Stays
@@ -55,6 +63,17 @@ module _ (p : ProgramTree) (k : Course) where
   pub follows_both : (c d e : Configuration) → Follows p k c d → Follows p k d e → Follows p k c e
   follows_both c d e Stays next = next
   follows_both c d e (GoesBy {d = b} m m_kind m_step rest) next = GoesBy m m_kind m_step (follows_both b d e rest next)
+
+  -- the labels of both
+  pub passes_both : (c d e : Configuration) (f : Follows p k c d) (g : Follows p k d e) → passes (follows_both c d e f g) ≡ passes f ++ passes g
+  unfolding follows_both
+  passes_both c d e Stays g = refl
+  passes_both c d e (GoesBy {d = b} m m_kind m_step rest) g = ap (λ ls. m ∷ ls) (passes_both b d e rest g)
+
+  pub passes_more : (c d e : Configuration) (l : Label) (f : Follows p k c d) (kind : k.follows l ≡ true) (step : transition p d l ≡ Some e) → passes (follows_more c d e l f kind step) ≡ passes f ++ l ∷ []
+  unfolding follows_more
+  passes_more c d e l Stays kind step = refl
+  passes_more c d e l (GoesBy {d = b} m m_kind m_step rest) kind step = ap (λ ls. m ∷ ls) (passes_more b d e l rest kind step)
 
 module _ (p : ProgramTree) (s : Bool) (o : ℕ) (c : Configuration) where
   pub followed : (n : ℕ) (x z : Object) → strolled p o n x ≡ Some z → Follows p (course s) (put_object c o x) (put_object c o z)

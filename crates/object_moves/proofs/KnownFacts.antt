@@ -20,14 +20,18 @@ use Rattle.pool_semantics.specs.declared.plain.state.State.{State}
 use Rattle.pool_semantics.proofs.Laws.{things_lookup}
 use Rattle.stepper_objects.specs.declared.object_state.ObjectState.{ObjectState}
 use Rattle.stepper_objects.specs.ObjectStates.{thing_object}
-use Rattle.object_moves.specs.Effects.{alone, together, effect_one, effect_two, is_of_one, IsBetween, strolled}
-use Rattle.object_moves.specs.Known.{IsKnownOne, IsKnownTwo, IsKnownRest, duo_label, labelled, numbers_of_one, numbers_of_two, one_of, solo_label, state_at, two_of}
+use Rattle.object_moves.specs.Effects.{alone, together, effect_mail, effect_new, effect_one, effect_two, is_of_one, IsBetween, strolled}
+use Rattle.object_moves.specs.Known.{IsKnownOne, IsKnownMail, IsKnownNew, IsKnownTwo, IsKnownRest, birth_label, duo_label, labelled, numbers_of_one, numbers_of_two, one_of, parcel_label, solo_label, state_at, two_of}
 use Rattle.object_moves.specs.Rows.{no_object, AreWithin}
 use Rattle.object_moves.specs.declared.known.Solo.{Solo}
 use Rattle.object_moves.specs.declared.known.Solo.TheVariants as S
 use Rattle.object_moves.specs.declared.known.Duo.{Duo}
 use Rattle.object_moves.specs.declared.known.Pair.{Pair}
+use Rattle.object_moves.specs.declared.known.Parcel.{Parcel}
 use Rattle.object_moves.specs.declared.known.KnownOne.{KnownOne}
+use Rattle.object_moves.specs.declared.known.KnownMail.{KnownMail}
+use Rattle.object_moves.specs.declared.known.Birth.{Birth}
+use Rattle.object_moves.specs.declared.known.KnownNew.{KnownNew}
 use Rattle.object_moves.specs.declared.known.KnownTwo.{KnownTwo}
 use Rattle.object_moves.specs.declared.known.KnownRest.{KnownRest}
 use Rattle.object_moves.proofs.OneEffect.{one_told, none_told}
@@ -68,6 +72,20 @@ module _ (p : ProgramTree) (xs : List Object) where
       let is = one_is (effect_one p (solo_label k.object k.act) (state_at xs k.state)) (one_of xs k.to) h.is in
       (ap₂ (λ l x. effect_one p l x) (ap₂ solo_label (sym eo) (sym ea)) (ap (state_at xs) (sym es)) ∙ is, h.within)
 
+  pub mail_known : (ks : List KnownMail) (i : ℕ) (k : KnownMail) (o s : ℕ) (a : Parcel) → All (IsKnownMail p xs) ks → slice_get ks i ≡ Some k → k.object ≡ o → k.state ≡ s → k.act ≡ a
+      → (effect_mail p (parcel_label o a) (state_at xs s) ≡ one_of xs k.to) × AreWithin xs (numbers_of_one k.to)
+  mail_known ks i k o s a all at eo es ea =
+      let h = at_place (IsKnownMail p xs) ks i k all at in
+      let is = one_is (effect_mail p (parcel_label k.object k.act) (state_at xs k.state)) (one_of xs k.to) h.is in
+      (ap₂ (λ l x. effect_mail p l x) (ap₂ parcel_label (sym eo) (sym ea)) (ap (state_at xs) (sym es)) ∙ is, h.within)
+
+  pub new_known : (ks : List KnownNew) (i : ℕ) (k : KnownNew) (b : Birth) → All (IsKnownNew p xs) ks → slice_get ks i ≡ Some k → k.birth ≡ b
+      → (effect_new p (birth_label b) (state_at xs b.state) ≡ two_of xs k.to) × AreWithin xs (numbers_of_two k.to)
+  new_known ks i k b all at eb =
+      let h = at_place (IsKnownNew p xs) ks i k all at in
+      let is = two_is (effect_new p (birth_label k.birth) (state_at xs k.birth.state)) (two_of xs k.to) h.is in
+      (ap (λ (d : Birth). effect_new p (birth_label d) (state_at xs d.state)) (sym eb) ∙ is, h.within)
+
   pub two_known : (ks : List KnownTwo) (i : ℕ) (k : KnownTwo) (q : Pair) (a : Duo) → All (IsKnownTwo p xs) ks → slice_get ks i ≡ Some k → k.pair ≡ q → k.act ≡ a
       → (effect_two p (duo_label q.receiver q.caller a) (state_at xs q.serving) (state_at xs q.asking) ≡ two_of xs k.to) × AreWithin xs (numbers_of_two k.to)
   two_known ks i k q a all at eq ea =
@@ -90,6 +108,13 @@ module _ (p : ProgramTree) (xs : List Object) where
   pub one_computed : (k : KnownOne) → k.state < length xs → AreWithin xs (numbers_of_one k.to) → effect_one p (solo_label k.object k.act) (state_at xs k.state) ≡ one_of xs k.to → IsKnownOne p xs k
   one_computed k s w e = record { state = s; within = w; is = SameObjects.one_told (effect_one p (solo_label k.object k.act) (state_at xs k.state)) (one_of xs k.to) e }
 
+  pub mail_computed : (k : KnownMail) → k.state < length xs → AreWithin xs (numbers_of_one k.to) → effect_mail p (parcel_label k.object k.act) (state_at xs k.state) ≡ one_of xs k.to
+      → IsKnownMail p xs k
+  mail_computed k s w e = record { state = s; within = w; is = SameObjects.one_told (effect_mail p (parcel_label k.object k.act) (state_at xs k.state)) (one_of xs k.to) e }
+
+  pub new_computed : (k : KnownNew) → k.birth.state < length xs → AreWithin xs (numbers_of_two k.to) → effect_new p (birth_label k.birth) (state_at xs k.birth.state) ≡ two_of xs k.to → IsKnownNew p xs k
+  new_computed k s w e = record { state = s; within = w; is = SameObjects.two_told (effect_new p (birth_label k.birth) (state_at xs k.birth.state)) (two_of xs k.to) e }
+
   pub two_computed : (k : KnownTwo) → k.pair.serving < length xs → k.pair.asking < length xs → AreWithin xs (numbers_of_two k.to)
       → effect_two p (duo_label k.pair.receiver k.pair.caller k.act) (state_at xs k.pair.serving) (state_at xs k.pair.asking) ≡ two_of xs k.to → IsKnownTwo p xs k
   two_computed k s a w e = record { serving = s; asking = a; within = w; is = SameObjects.two_told (effect_two p (duo_label k.pair.receiver k.pair.caller k.act) (state_at xs k.pair.serving) (state_at xs k.pair.asking)) (two_of xs k.to) e }
@@ -103,7 +128,7 @@ solo_agent o (S.Pick i) = refl
 solo_agent o (S.Fault e) = refl
 
 -- an object of the stepper, and the number that the table gives it
-told_as : (ys : List Object) (n : ℕ) (t : Object) → slice_get ys n ≡ Some t → Some t ≡ Some (state_at ys n)
+pub told_as : (ys : List Object) (n : ℕ) (t : Object) → slice_get ys n ≡ Some t → Some t ≡ Some (state_at ys n)
 told_as ys n t at = ap Some (sym (state_there ys n t at))
 
 -- the object of this name, in a map of the stepper

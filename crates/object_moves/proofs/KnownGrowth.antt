@@ -4,11 +4,13 @@ use Rattle.std.specs.List.{All}
 use Rattle.std.proofs.lemmas.List.Elements.{All-head, All-tail, All-push, All-weaker}
 use Rattle.pool_syntax.specs.Terms.{ProgramTree}
 use Rattle.pool_relation.specs.Action.{Object}
-use Rattle.object_moves.specs.Effects.{effect_one, effect_two, strolled}
-use Rattle.object_moves.specs.Known.{IsKnownOne, IsKnownTwo, IsKnownRest, duo_label, numbers_of_one, numbers_of_two, one_of, solo_label, state_at, two_of}
+use Rattle.object_moves.specs.Effects.{effect_mail, effect_new, effect_one, effect_two, strolled}
+use Rattle.object_moves.specs.Known.{IsKnownOne, IsKnownMail, IsKnownNew, IsKnownTwo, IsKnownRest, birth_label, duo_label, numbers_of_one, numbers_of_two, one_of, parcel_label, solo_label, state_at, two_of}
 use Rattle.object_moves.specs.Rows.{AreWithin}
 use Rattle.object_moves.specs.SameObjects.{same_one, same_two}
 use Rattle.object_moves.specs.declared.known.KnownOne.{KnownOne}
+use Rattle.object_moves.specs.declared.known.KnownMail.{KnownMail}
+use Rattle.object_moves.specs.declared.known.KnownNew.{KnownNew}
 use Rattle.object_moves.specs.declared.known.KnownTwo.{KnownTwo}
 use Rattle.object_moves.specs.declared.known.KnownRest.{KnownRest}
 use Rattle.object_moves.specs.declared.known.One.{One}
@@ -39,6 +41,20 @@ module _ (xs ys : List Object) (grown : take (length xs) ys ≡ xs) where
       is = ap₂ (λ x m. same_one (effect_one p (solo_label k.object k.act) x) m) (state_still xs ys k.state grown h.state) (one_still k.to h.within) ∙ h.is;
     }
 
+    mail_known : (k : KnownMail) → IsKnownMail p xs k → IsKnownMail p ys k
+    mail_known k h = record {
+      state = number_still k.state h.state;
+      within = within_still xs ys (numbers_of_one k.to) grown h.within;
+      is = ap₂ (λ x m. same_one (effect_mail p (parcel_label k.object k.act) x) m) (state_still xs ys k.state grown h.state) (one_still k.to h.within) ∙ h.is;
+    }
+
+    new_known : (k : KnownNew) → IsKnownNew p xs k → IsKnownNew p ys k
+    new_known k h = record {
+      state = number_still k.birth.state h.state;
+      within = within_still xs ys (numbers_of_two k.to) grown h.within;
+      is = ap₂ (λ x m. same_two (effect_new p (birth_label k.birth) x) m) (state_still xs ys k.birth.state grown h.state) (two_still k.to h.within) ∙ h.is;
+    }
+
     two_known : (k : KnownTwo) → IsKnownTwo p xs k → IsKnownTwo p ys k
     two_known k h = record {
       serving = number_still k.pair.serving h.serving;
@@ -59,6 +75,12 @@ module _ (xs ys : List Object) (grown : take (length xs) ys ≡ xs) where
     -- all of them
     pub ones_known : (ks : List KnownOne) → All (IsKnownOne p xs) ks → All (IsKnownOne p ys) ks
     ones_known ks h = All-weaker (IsKnownOne p xs) (IsKnownOne p ys) one_known ks h
+
+    pub mails_known : (ks : List KnownMail) → All (IsKnownMail p xs) ks → All (IsKnownMail p ys) ks
+    mails_known ks h = All-weaker (IsKnownMail p xs) (IsKnownMail p ys) mail_known ks h
+
+    pub news_known : (ks : List KnownNew) → All (IsKnownNew p xs) ks → All (IsKnownNew p ys) ks
+    news_known ks h = All-weaker (IsKnownNew p xs) (IsKnownNew p ys) new_known ks h
 
     pub twos_known : (ks : List KnownTwo) → All (IsKnownTwo p xs) ks → All (IsKnownTwo p ys) ks
     twos_known ks h = All-weaker (IsKnownTwo p xs) (IsKnownTwo p ys) two_known ks h

@@ -5,6 +5,8 @@ use Rattle.std.specs.declared.cmp.Ordering.{Ordering}
 use Rattle.std.specs.declared.cmp.Ordering.TheVariants.{Less, Equal, Greater}
 use Rattle.std.specs.FinMap.{find, put}
 use Rattle.std.proofs.lemmas.List.Elements.{All-head, All-tail}
+use Rattle.run_types.specs.Message.{Message}
+use Rattle.run_types.specs.Tables.{Pair}
 use Rattle.pool_relation.specs.Action.{Object}
 use Rattle.pool_relation.specs.Configuration.{Configuration, object_of, put_object}
 use Rattle.object_moves.specs.Rows.{no_object, objects_from, row, AreWithin}
@@ -48,14 +50,14 @@ put_at k xs (m ∷ ns) (suc i) n l =
 itself : (o : ℕ) → 0 + o ≡ o
 itself o = omega arith
 
-pub row_object : (xs : List Object) (ns : List ℕ) (o : ℕ) → o < length ns → object_of (row xs ns) o ≡ Some (get_or xs (get_or ns o 0) no_object)
-row_object xs ns o l = subst (λ q. find nat_cmp q (objects_from 0 xs ns) ≡ Some (get_or xs (get_or ns o 0) no_object)) (itself o) (find_at 0 xs ns o l)
+pub row_object : (xs : List Object) (ns : List ℕ) (ms : List (Pair × List Message)) (o : ℕ) → o < length ns → object_of (row xs ns ms) o ≡ Some (get_or xs (get_or ns o 0) no_object)
+row_object xs ns ms o l = subst (λ q. find nat_cmp q (objects_from 0 xs ns) ≡ Some (get_or xs (get_or ns o 0) no_object)) (itself o) (find_at 0 xs ns o l)
 
-pub row_put : (xs : List Object) (ns : List ℕ) (o n : ℕ) → o < length ns → put_object (row xs ns) o (get_or xs n no_object) ≡ row xs (set ns o n)
-row_put xs ns o n l = ap (λ os. the_row os) (subst (λ q. put nat_cmp q (get_or xs n no_object) (objects_from 0 xs ns) ≡ objects_from 0 xs (set ns o n)) (itself o) (put_at 0 xs ns o n l))
+pub row_put : (xs : List Object) (ns : List ℕ) (ms : List (Pair × List Message)) (o n : ℕ) → o < length ns → put_object (row xs ns ms) o (get_or xs n no_object) ≡ row xs (set ns o n) ms
+row_put xs ns ms o n l = ap (λ os. the_row os) (subst (λ q. put nat_cmp q (get_or xs n no_object) (objects_from 0 xs ns) ≡ objects_from 0 xs (set ns o n)) (itself o) (put_at 0 xs ns o n l))
   where
     the_row : List (ℕ × Object) → Configuration
-    the_row os = record { objects = os; messages = [] }
+    the_row os = record { objects = os; messages = ms }
 
 -- the number of one of them
 pub number_within : (xs : List Object) (ns : List ℕ) (o : ℕ) → AreWithin xs ns → o < length ns → get_or ns o 0 < length xs

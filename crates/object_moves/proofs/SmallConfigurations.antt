@@ -1,16 +1,18 @@
 -- Configurations of one or two objects.
-use Rattle.std.proofs.Common.{◌≡◌, ◌≢◌, refl, sym, ap, ◌∙◌, ℕ, suc, [], ◌∷◌, Some, arith}
+use Rattle.std.proofs.Common.{◌≡◌, ◌≢◌, ◌⊎◌, inl, inr, refl, sym, ap, ◌∙◌, ℕ, suc, [], ◌∷◌, Some, arith}
+use Rattle.std.specs.Option.{unwrap_or}
 use Rattle.std.specs.Ordering.{nat_cmp}
 use Rattle.std.specs.declared.cmp.Ordering.{Ordering}
 use Rattle.std.specs.declared.cmp.Ordering.TheVariants.{Less, Equal, Greater}
 use Rattle.run_types.specs.declared.types.Label.TheVariants as L
+use Rattle.run_types.specs.Message.{Message}
 use Rattle.run_types.specs.Partial.{◌>>=◌}
-use Rattle.run_types.proofs.Laws.{given_by, same_some, find_put_same, find_put_other}
+use Rattle.run_types.proofs.Laws.{decide, given_by, same_some, find_pair_same, find_put_same, find_put_other}
 use Rattle.pool_syntax.specs.Terms.{ProgramTree}
 use Rattle.pool_relation.specs.Action.{Object}
-use Rattle.pool_relation.specs.Configuration.{Configuration, object_of, put_object}
+use Rattle.pool_relation.specs.Configuration.{Configuration, object_of, put_object, messages_of}
 use Rattle.pool_relation.specs.Transition.{transition}
-use Rattle.object_moves.specs.Effects.{alone, together, local_move, strolled}
+use Rattle.object_moves.specs.Effects.{alone, together, with_message, local_move, strolled}
 use Rattle.object_moves.proofs.OneEffect.{local_here}
 
 itself : (o : ℕ) → nat_cmp o o ≡ Equal
@@ -33,6 +35,21 @@ module _ (o : ℕ) (x : Object) (b : ℕ) (y : Object) where
 
   pub first_object : o ≢ b → object_of (together o x b y) o ≡ Some x
   first_object apart = find_put_other o b y ((o, x) ∷ []) apart ∙ alone_object o x
+
+-- a message, and both names
+module _ (o : ℕ) (x : Object) (b : ℕ) (m : Message) where
+  pub other_name : object_of (with_message o x b m) b ≡ Some x
+  other_name = find_put_same b x ((o, x) ∷ [])
+
+  pub own_name : object_of (with_message o x b m) o ≡ Some x
+  own_name = by (decide o b)
+    where
+      by : (o ≡ b) ⊎ (o ≢ b) → object_of (with_message o x b m) o ≡ Some x
+      by (inl e) = ap (object_of (with_message o x b m)) e ∙ other_name
+      by (inr n) = find_put_other o b x ((o, x) ∷ []) n ∙ alone_object o x
+
+  pub only_message : messages_of (with_message o x b m) b o ≡ m ∷ []
+  only_message = ap (λ l. unwrap_or l []) (find_pair_same (b, o) (m ∷ []) [])
 
 -- one more local transition
 pub strolled_more : (p : ProgramTree) (o k : ℕ) (x y : Object) (d : Configuration) → strolled p o k x ≡ Some y → transition p (alone o y) (L.Local o) ≡ Some d

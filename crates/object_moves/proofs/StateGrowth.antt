@@ -3,6 +3,8 @@ use Rattle.std.proofs.Common.{◌≡◌, refl, sym, ap, ap₂, ◌∙◌, ℕ, s
 use Rattle.std.proofs.Math.Seq.{take-length}
 use Rattle.std.proofs.lemmas.List.{get_or-take, length-take, take-take}
 use Rattle.std.proofs.lemmas.List.Elements.{All-head, All-tail, All-weaker}
+use Rattle.run_types.specs.Message.{Message}
+use Rattle.run_types.specs.Tables.{Pair}
 use Rattle.pool_relation.specs.Action.{Object}
 use Rattle.pool_relation.specs.Configuration.{Configuration}
 use Rattle.object_moves.specs.Rows.{no_object, objects_from, row, AreWithin}
@@ -26,11 +28,11 @@ objects_still o xs ys (n ∷ ns) f w =
     let h : n < length xs = All-head (λ n. n < length xs) n ns w in
     ap₂ (λ x l. (o, x) ∷ l) (state_still xs ys n f h) (objects_still (suc o) xs ys ns f (All-tail (λ n. n < length xs) n ns w))
 
-pub row_still : (xs ys : List Object) (ns : List ℕ) → take (length xs) ys ≡ xs → AreWithin xs ns → row ys ns ≡ row xs ns
-row_still xs ys ns f w = ap (λ os. the_row os) (objects_still 0 xs ys ns f w)
+pub row_still : (xs ys : List Object) (ns : List ℕ) (ms : List (Pair × List Message)) → take (length xs) ys ≡ xs → AreWithin xs ns → row ys ns ms ≡ row xs ns ms
+row_still xs ys ns ms f w = ap (λ os. the_row os) (objects_still 0 xs ys ns f w)
   where
     the_row : List (ℕ × Object) → Configuration
-    the_row os = record { objects = os; messages = [] }
+    the_row os = record { objects = os; messages = ms }
 
 pub within_still : (xs ys : List Object) (ns : List ℕ) → take (length xs) ys ≡ xs → AreWithin xs ns → AreWithin ys ns
 within_still xs ys ns f w = let m = no_shorter xs ys f in All-weaker (λ n. n < length xs) (λ n. n < length ys) (λ n l. omega arith) ns w

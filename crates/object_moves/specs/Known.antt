@@ -1,21 +1,26 @@
 -- What a table of moves knows: what some transitions make of states, by their numbers.
-use Rattle.std.specs.Prelude.{◌≡◌, ◌<◌, ℕ, List, [], ◌∷◌, length, Option, Some, None, true, slice_index_or}
+use Rattle.std.specs.Prelude.{◌≡◌, ◌<◌, ℕ, List, [], ◌∷◌, length, Option, Some, None, Bool, true, false, slice_index_or}
 use Rattle.run_types.specs.declared.types.Label.{Label}
 use Rattle.run_types.specs.declared.types.Value.{Value}
 use Rattle.run_types.specs.declared.types.Label.TheVariants as L
 use Rattle.pool_syntax.specs.Terms.{ProgramTree}
 use Rattle.pool_relation.specs.Action.{Object}
-use Rattle.object_moves.specs.Effects.{effect_one, effect_two, strolled}
+use Rattle.run_types.specs.Message.{Message}
+use Rattle.object_moves.specs.Effects.{effect_mail, effect_new, effect_one, effect_two, strolled}
 use Rattle.object_moves.specs.Rows.{no_object, AreWithin}
 use Rattle.object_moves.specs.SameObjects.{same_one, same_two}
 use Rattle.object_moves.specs.declared.known.Solo.{Solo}
 use Rattle.object_moves.specs.declared.known.Solo.TheVariants as S
 use Rattle.object_moves.specs.declared.known.Duo.{Duo}
+use Rattle.object_moves.specs.declared.known.Parcel.{Parcel}
 use Rattle.object_moves.specs.declared.known.One.{One}
 use Rattle.object_moves.specs.declared.known.One.TheVariants as O
 use Rattle.object_moves.specs.declared.known.Two.{Two}
 use Rattle.object_moves.specs.declared.known.Two.TheVariants as W
 use Rattle.object_moves.specs.declared.known.KnownOne.{KnownOne}
+use Rattle.object_moves.specs.declared.known.KnownMail.{KnownMail}
+use Rattle.object_moves.specs.declared.known.Birth.{Birth}
+use Rattle.object_moves.specs.declared.known.KnownNew.{KnownNew}
 use Rattle.object_moves.specs.declared.known.KnownTwo.{KnownTwo}
 use Rattle.object_moves.specs.declared.known.KnownRest.{KnownRest}
 
@@ -33,6 +38,23 @@ labelled b o a (Some v) = L.Return b o v
 -- the label of a transition of the receiver b and the caller o
 abbrev pub duo_label : ℕ → ℕ → Duo → Label
 duo_label b o a = labelled b o a a.returned
+
+-- the message
+abbrev pub parcel_message : Parcel → Message
+parcel_message a = record { method = a.method.0; args = a.args }
+
+-- the label of a take of the message by the object o, or of its send
+abbrev pub moved_by : ℕ → Parcel → Bool → Label
+moved_by o a true = L.Take o a.other a.method a.args
+moved_by o a false = L.Send o a.other a.method a.args
+
+-- the label of a transition in which the object o sends or takes the message
+abbrev pub parcel_label : ℕ → Parcel → Label
+parcel_label o a = moved_by o a a.takes
+
+-- the label of the transition that makes the object
+abbrev pub birth_label : Birth → Label
+birth_label b = L.New b.object b.name b.class
 
 -- the object with this number
 abbrev pub state_at : List Object → ℕ → Object
@@ -64,6 +86,18 @@ module _ (p : ProgramTree) (xs : List Object) where
     pub state : k.state < length xs
     pub within : AreWithin xs (numbers_of_one k.to)
     pub is : same_one (effect_one p (solo_label k.object k.act) (state_at xs k.state)) (one_of xs k.to) ≡ true
+
+  -- what is known of a message that is sent or taken is so
+  pub record IsKnownMail (k : KnownMail) : Type 0 where
+    pub state : k.state < length xs
+    pub within : AreWithin xs (numbers_of_one k.to)
+    pub is : same_one (effect_mail p (parcel_label k.object k.act) (state_at xs k.state)) (one_of xs k.to) ≡ true
+
+  -- what is known of an object that is made is so
+  pub record IsKnownNew (k : KnownNew) : Type 0 where
+    pub state : k.birth.state < length xs
+    pub within : AreWithin xs (numbers_of_two k.to)
+    pub is : same_two (effect_new p (birth_label k.birth) (state_at xs k.birth.state)) (two_of xs k.to) ≡ true
 
   -- what is known of a transition of two objects is so
   pub record IsKnownTwo (k : KnownTwo) : Type 0 where

@@ -5,3 +5,4 @@ pub mod Known
 pub mod Rows
 pub mod SameObjects
 pub mod Tables
+pub mod Waiting

@@ -1,6 +1,7 @@
 //! What a table of moves knows.
-ghost use Rattle.std.specs.Prelude.{◌≡◌, Some, None};
+ghost use Rattle.std.specs.Prelude.{◌≡◌, Some, None, true, false};
 
+use pool_semantics::Mail;
 use run_types::{Args, Error, Item, NameId, Value};
 
 /// A transition that one object makes alone, but no local one.
@@ -45,6 +46,53 @@ impl Duo {
     }
 }
 
+/// A message that an object sends to another, or takes from it.
+#[derive(Clone, Copy)]
+pub struct Parcel {
+    /// Whether the object takes it. Else it sends it.
+    pub takes: bool,
+    /// The receiver of a message that is sent, or the sender of one that is taken.
+    pub other: u32,
+    pub method: NameId,
+    pub args: Args,
+}
+
+impl Parcel {
+    /// The message to this receiver, as it is sent.
+    pub fn to_receiver(receiver: u32, method: NameId, args: Args) -> Parcel
+        ensures { (result.takes ≡ false) × (result.other ≡ receiver) × (result.method ≡ method) × (result.args ≡ args) }
+    {
+        Parcel {
+            takes: false,
+            other: receiver,
+            method,
+            args,
+        }
+    }
+
+    /// The message of this sender, as it is taken.
+    pub fn from_sender(sender: u32, method: NameId, args: Args) -> Parcel
+        ensures { (result.takes ≡ true) × (result.other ≡ sender) × (result.method ≡ method) × (result.args ≡ args) }
+    {
+        Parcel {
+            takes: true,
+            other: sender,
+            method,
+            args,
+        }
+    }
+
+    /// The message, apart from its sender and its receiver.
+    pub fn mail(&self) -> Mail
+        ensures { (result.method ≡ self.now.method) × (result.args ≡ self.now.args) }
+    {
+        Mail {
+            method: self.method,
+            args: self.args,
+        }
+    }
+}
+
 /// What a transition of one object leads to.
 #[derive(Clone, Copy)]
 pub enum One {
@@ -54,12 +102,12 @@ pub enum One {
     To(u32),
 }
 
-/// What a transition of a receiver and a caller leads to.
+/// What a transition of a receiver and a caller leads to, or one of an object and the new object that it makes.
 #[derive(Clone, Copy)]
 pub enum Two {
     /// It is not possible.
     Impossible,
-    /// The receiver and the caller are then in the states with these numbers.
+    /// The first and the second are then in the states with these numbers.
     To(u32, u32),
 }
 
@@ -72,8 +120,8 @@ pub enum Next {
     Makes(Solo),
     /// It returns a value to this caller.
     Returns { caller: u32, value: Value },
-    /// It sends a message.
-    Sends,
+    /// It sends the message with this number.
+    Sends(u32),
 }
 
 /// The names of a receiver and a caller, and the numbers of their states.
@@ -91,6 +139,31 @@ pub struct KnownOne {
     pub object: u32,
     pub state: u32,
     pub act: Solo,
+    pub to: One,
+}
+
+/// The object of this name, in this state, makes an object of this class under the name `name`.
+#[derive(Clone, Copy)]
+pub struct Birth {
+    pub object: u32,
+    pub state: u32,
+    pub name: u32,
+    pub class: NameId,
+}
+
+/// A transition that makes an object. `to` is what its maker and the new object then are.
+#[derive(Clone, Copy)]
+pub struct KnownNew {
+    pub birth: Birth,
+    pub to: Two,
+}
+
+/// A message that the object of this name sends or takes in this state.
+#[derive(Clone, Copy)]
+pub struct KnownMail {
+    pub object: u32,
+    pub state: u32,
+    pub act: Parcel,
     pub to: One,
 }
 

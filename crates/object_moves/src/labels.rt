@@ -1,26 +1,33 @@
 //! Labels of what a table of moves knows, their equality, and their hashes.
 ghost use Rattle.std.specs.Prelude.{◌≡◌, true};
-ghost use Rattle.object_moves.specs.Known.{duo_label, solo_label};
+ghost use Rattle.run_types.specs.Same.{are_same};
+ghost use Rattle.object_moves.specs.Known.{birth_label, duo_label, parcel_label, solo_label};
 
-use crate::known::{Duo, Pair, Solo};
+use crate::known::{Birth, Duo, Pair, Parcel, Solo};
 use run_types::operators::same;
 use run_types::{Error, Item, Label, Value};
 use std::hash::{FoldHasher, Hasher};
 
 /// Whether two lists of values are the same.
-#[tactic(auto, using(run_types::proofs::Laws::same_value))]
 pub fn same_values(left: &[Value], right: &[Value]) -> bool
-    ensures { result ≡ true → left.now ≡ right.now }
+    ensures is { result ≡ are_same left.now right.now }
+    ensures same { result ≡ true → left.now ≡ right.now }
 {
-    if left.len() != right.len() {
-        return false;
-    }
-    for (i, value) in left.iter().enumerate() {
-        if !same(*value, right[i]) {
-            return false;
+    let mut values = left;
+    let mut others = right;
+    while let Some((value, more)) = values.split_first() {
+        match others.split_first() {
+            None => return false,
+            Some((other, rest)) => {
+                if !same(*value, *other) {
+                    return false;
+                }
+                others = rest;
+            }
         }
+        values = more;
     }
-    true
+    others.is_empty()
 }
 
 #[tactic(auto, using(run_types::proofs::Laws::same_value))]
@@ -72,6 +79,16 @@ pub fn same_duo(left: &Duo, right: &Duo) -> bool
         && same_values(left.args.values(), right.args.values())
 }
 
+/// Whether the two messages are the same, and both are sent or both are taken.
+pub fn same_parcel(left: &Parcel, right: &Parcel) -> bool
+    ensures { result ≡ true → left.now ≡ right.now }
+{
+    left.takes == right.takes
+        && left.other == right.other
+        && left.method.0 == right.method.0
+        && same_values(left.args.values(), right.args.values())
+}
+
 /// Whether the names and the numbers are the same.
 pub fn same_pair(left: Pair, right: Pair) -> bool
     ensures { result ≡ true → left ≡ right }
@@ -112,6 +129,48 @@ pub fn duo_label(receiver: u32, caller: u32, act: &Duo) -> Label
     }
 }
 
+/// The label of a transition in which this object sends or takes the message.
+pub fn parcel_label(object: u32, act: &Parcel) -> Label
+    ensures { result ≡ parcel_label object act.now }
+{
+    if act.takes {
+        Label::Take {
+            receiver: object,
+            sender: act.other,
+            method: act.method,
+            args: act.args,
+        }
+    } else {
+        Label::Send {
+            object,
+            receiver: act.other,
+            method: act.method,
+            args: act.args,
+        }
+    }
+}
+
+/// Whether the names, the numbers and the classes are the same.
+pub fn same_birth(left: Birth, right: Birth) -> bool
+    ensures { result ≡ true → left ≡ right }
+{
+    left.object == right.object
+        && left.state == right.state
+        && left.name == right.name
+        && left.class.0 == right.class.0
+}
+
+/// The label of a transition that makes an object.
+pub fn birth_label(birth: Birth) -> Label
+    ensures { result ≡ birth_label birth }
+{
+    Label::New {
+        object: birth.object,
+        name: birth.name,
+        class: birth.class,
+    }
+}
+
 fn mark_value(value: Value, mark: &mut FoldHasher) {
     match value {
         Value::Int(number) => mark.write_i64(number),
@@ -129,6 +188,29 @@ pub fn mark_one(object: u32, state: u32, act: Solo) -> u64 {
     mark.write_u32(state);
     if let Solo::Pick(alt) = act {
         mark.write_u32(alt);
+    }
+    mark.finish()
+}
+
+/// The hash of a transition that makes an object. The class follows from it. No proof depends on it.
+pub fn mark_new(birth: Birth) -> u64 {
+    let mut mark = FoldHasher::default();
+    mark.write_u32(birth.object);
+    mark.write_u32(birth.state);
+    mark.write_u32(birth.name);
+    mark.finish()
+}
+
+/// The hash of a message that an object in a state sends or takes. No proof depends on it.
+pub fn mark_mail(object: u32, state: u32, act: &Parcel) -> u64 {
+    let mut mark = FoldHasher::default();
+    mark.write_u32(object);
+    mark.write_u32(state);
+    mark.write_u8(u8::from(act.takes));
+    mark.write_u32(act.other);
+    mark.write_u32(act.method.0);
+    for value in act.args.values() {
+        mark_value(*value, &mut mark);
     }
     mark.finish()
 }

@@ -1,19 +1,24 @@
 //! Transitions in rows of numbers.
-ghost use Rattle.std.specs.Prelude.{◌≡◌, ◌<◌, ℕ, Bool, Ok, None, Some, IfOk, IfSome, length, take, true, false};
+ghost use Rattle.std.specs.Prelude.{◌≡◌, ◌<◌, ◌∷◌, ℕ, List, [], Bool, Ok, OnOk, None, Some, IfOk, IfSome, length, take, true, false};
 ghost use Rattle.pool_syntax.specs.TreeOf.{program_of};
 ghost use Rattle.pool_relation.specs.Configuration.{Configuration};
 ghost use Rattle.pool_relation.specs.Transition.{transition};
 ghost use Rattle.search_laws.specs.Tried.{Follows};
 ghost use Rattle.search_states.specs.States.{states};
-ghost use Rattle.object_moves.specs.Followed.{course};
-ghost use Rattle.object_moves.specs.Known.{duo_label, solo_label};
+ghost use Rattle.object_moves.specs.Followed.{AreChanged, HasMoved, course, passes};
+ghost use Rattle.object_moves.specs.Known.{birth_label, duo_label, parcel_label, solo_label};
+ghost use Rattle.run_types.specs.Message.{Message};
+ghost use Rattle.pool_semantics.specs.Mails.{posts};
 ghost use Rattle.object_moves.specs.Rows.{AreWithin, row};
 
-use crate::known::{Duo, Lead, Next, One, Pair, Solo, Two};
+use crate::known::{Birth, Duo, Lead, Next, One, Pair, Parcel, Solo, Two};
+use crate::mails::{change_messages, waits};
 use crate::small::MOST;
 use crate::table::MoveTable;
-use run_types::Label;
+use pool_semantics::Mail;
+use run_types::{Label, NameId};
 use std::alloc::AllocError;
+use std::collections::{BTreeMap, VecDeque};
 
 /// Whether the transition of one object is followed: a write unless `silent`, an error always, a pick never.
 fn is_followed(silent: bool, act: Solo) -> bool
@@ -26,10 +31,17 @@ fn is_followed(silent: bool, act: Solo) -> bool
     }
 }
 
-/// Adds the objects that take part in a transition of one object, an answer or a return.
-fn push_movers(moved: &mut Vec<u32>, label: &Label) -> Result<(), AllocError> {
+/// Adds the objects that a transition with this label changes.
+pub fn push_movers(moved: &mut Vec<u32>, label: &Label) -> Result<(), AllocError>
+    ensures { OnOk result (HasMoved (label.now ∷ []) moved.old.items moved.new.items) }
+{
     match *label {
-        Label::Write { object, .. } | Label::Pick { object, .. } | Label::Fault { object, .. } => {
+        Label::Local { object }
+        | Label::New { object, .. }
+        | Label::Send { object, .. }
+        | Label::Write { object, .. }
+        | Label::Pick { object, .. }
+        | Label::Fault { object, .. } => {
             moved.push(object)?;
             Ok(())
         }
@@ -47,7 +59,10 @@ fn push_movers(moved: &mut Vec<u32>, label: &Label) -> Result<(), AllocError> {
             moved.push(caller)?;
             Ok(())
         }
-        Label::Local { .. } | Label::New { .. } | Label::Send { .. } | Label::Take { .. } => Ok(()),
+        Label::Take { receiver, .. } => {
+            moved.push(receiver)?;
+            Ok(())
+        }
     }
 }
 
@@ -64,8 +79,8 @@ impl<'a> MoveTable<'a> {
         ensures grows { take (length (states self.old.table)) (states self.new.table) ≡ states self.old.table }
         ensures program { self.new.program ≡ self.old.program }
         ensures within { IfOk result (λ _. AreWithin (states self.new.table) numbers.new.items) }
-        ensures impossible { result ≡ Ok Lead.Impossible → transition (program_of self.old.program.now) (row (states self.old.table) numbers.old.items) (solo_label object act) ≡ None }
-        ensures made { result ≡ Ok Lead.Made → transition (program_of self.old.program.now) (row (states self.old.table) numbers.old.items) (solo_label object act) ≡ Some (row (states self.new.table) numbers.new.items) }
+        ensures impossible { (ms : List ((ℕ × ℕ) × List Message)) → result ≡ Ok Lead.Impossible → transition (program_of self.old.program.now) (row (states self.old.table) numbers.old.items ms) (solo_label object act) ≡ None }
+        ensures made { (ms : List ((ℕ × ℕ) × List Message)) → result ≡ Ok Lead.Made → transition (program_of self.old.program.now) (row (states self.old.table) numbers.old.items ms) (solo_label object act) ≡ Some (row (states self.new.table) numbers.new.items ms) }
     {
         let Some(state) = numbers.as_slice().get(object as usize) else {
             return Ok(Lead::Unknown);
@@ -81,11 +96,12 @@ impl<'a> MoveTable<'a> {
         }
     }
 
-    /// Makes the answer or the return in this row. `Unknown` if the row has no such objects, if they are one object, or
-    /// if the table of states is full. An error means out of memory.
+    /// Makes the answer or the return in this row. `Unknown` if the row has no such objects, if they are one object, if a
+    /// message from the caller to the receiver waits, or if the table of states is full. An error means out of memory.
     fn make_two(
         &mut self,
         numbers: &mut Vec<u32>,
+        messages: &BTreeMap<(u32, u32), VecDeque<Mail>>,
         receiver: u32,
         caller: u32,
         act: &Duo,
@@ -94,10 +110,13 @@ impl<'a> MoveTable<'a> {
         ensures grows { take (length (states self.old.table)) (states self.new.table) ≡ states self.old.table }
         ensures program { self.new.program ≡ self.old.program }
         ensures within { IfOk result (λ _. AreWithin (states self.new.table) numbers.new.items) }
-        ensures impossible { result ≡ Ok Lead.Impossible → transition (program_of self.old.program.now) (row (states self.old.table) numbers.old.items) (duo_label receiver caller act.now) ≡ None }
-        ensures made { result ≡ Ok Lead.Made → transition (program_of self.old.program.now) (row (states self.old.table) numbers.old.items) (duo_label receiver caller act.now) ≡ Some (row (states self.new.table) numbers.new.items) }
+        ensures impossible { result ≡ Ok Lead.Impossible → transition (program_of self.old.program.now) (row (states self.old.table) numbers.old.items (posts messages.now.entries)) (duo_label receiver caller act.now) ≡ None }
+        ensures made { result ≡ Ok Lead.Made → transition (program_of self.old.program.now) (row (states self.old.table) numbers.old.items (posts messages.now.entries)) (duo_label receiver caller act.now) ≡ Some (row (states self.new.table) numbers.new.items (posts messages.now.entries)) }
     {
         if receiver == caller {
+            return Ok(Lead::Unknown);
+        }
+        if waits(messages, caller, receiver) {
             return Ok(Lead::Unknown);
         }
         let Some(serving) = numbers.as_slice().get(receiver as usize) else {
@@ -124,16 +143,101 @@ impl<'a> MoveTable<'a> {
         }
     }
 
-    /// Makes the transition with this label in this row, where no message waits. `Unknown` if it makes an object, sends
-    /// or takes a message, or is local; if the row has no such objects, or if the table of states is full. An error
-    /// means out of memory.
-    fn make_in(&mut self, numbers: &mut Vec<u32>, label: &Label) -> Result<Lead, AllocError>
+    /// Makes the transition in which the object sends or takes this message in this row. `Impossible` also if it takes one
+    /// that is not the first one of its sender for its method. `Unknown` if it takes the first one for its method, and
+    /// others are before it, if the row has no such objects, or if the table of states is full; the messages are then
+    /// unspecified. An error means out of memory.
+    fn make_mail(
+        &mut self,
+        numbers: &mut Vec<u32>,
+        messages: &mut BTreeMap<(u32, u32), VecDeque<Mail>>,
+        object: u32,
+        act: &Parcel,
+    ) -> Result<Lead, AllocError>
         requires within { AreWithin (states self.old.table) numbers.old.items }
         ensures grows { take (length (states self.old.table)) (states self.new.table) ≡ states self.old.table }
         ensures program { self.new.program ≡ self.old.program }
         ensures within { IfOk result (λ _. AreWithin (states self.new.table) numbers.new.items) }
-        ensures impossible { result ≡ Ok Lead.Impossible → transition (program_of self.old.program.now) (row (states self.old.table) numbers.old.items) label.now ≡ None }
-        ensures made { result ≡ Ok Lead.Made → transition (program_of self.old.program.now) (row (states self.old.table) numbers.old.items) label.now ≡ Some (row (states self.new.table) numbers.new.items) }
+        ensures impossible { result ≡ Ok Lead.Impossible → transition (program_of self.old.program.now) (row (states self.old.table) numbers.old.items (posts messages.old.entries)) (parcel_label object act.now) ≡ None }
+        ensures made { result ≡ Ok Lead.Made → transition (program_of self.old.program.now) (row (states self.old.table) numbers.old.items (posts messages.old.entries)) (parcel_label object act.now) ≡ Some (row (states self.new.table) numbers.new.items (posts messages.new.entries)) }
+    {
+        let Some(state) = numbers.as_slice().get(object as usize) else {
+            return Ok(Lead::Unknown);
+        };
+        match self.mail(object, *state, act) {
+            Ok(None) => Ok(Lead::Unknown),
+            Ok(Some(One::Impossible)) => Ok(Lead::Impossible),
+            Ok(Some(One::To(to))) => {
+                match change_messages(self.alloc(), messages, numbers.len(), object, act) {
+                    Ok(Lead::Made) => {
+                        numbers[object as usize] = to;
+                        Ok(Lead::Made)
+                    }
+                    Ok(Lead::Unknown) => Ok(Lead::Unknown),
+                    Ok(Lead::Impossible) => Ok(Lead::Impossible),
+                    Err(_) => Err(AllocError),
+                }
+            }
+            Err(_) => Err(AllocError),
+        }
+    }
+
+    /// Makes the transition in which the object makes another one, under the next name of this row. `Unknown` if this is
+    /// not the next name, if the row has no such object, or if the table of states is full. An error means out of memory.
+    fn make_new(
+        &mut self,
+        numbers: &mut Vec<u32>,
+        object: u32,
+        name: u32,
+        class: NameId,
+    ) -> Result<Lead, AllocError>
+        requires within { AreWithin (states self.old.table) numbers.old.items }
+        ensures grows { take (length (states self.old.table)) (states self.new.table) ≡ states self.old.table }
+        ensures program { self.new.program ≡ self.old.program }
+        ensures within { IfOk result (λ _. AreWithin (states self.new.table) numbers.new.items) }
+        ensures impossible { (ms : List ((ℕ × ℕ) × List Message)) → result ≡ Ok Lead.Impossible → transition (program_of self.old.program.now) (row (states self.old.table) numbers.old.items ms) (Label.New object name class) ≡ None }
+        ensures made { (ms : List ((ℕ × ℕ) × List Message)) → result ≡ Ok Lead.Made → transition (program_of self.old.program.now) (row (states self.old.table) numbers.old.items ms) (Label.New object name class) ≡ Some (row (states self.new.table) numbers.new.items ms) }
+    {
+        if name as usize != numbers.len() {
+            return Ok(Lead::Unknown);
+        }
+        let Some(state) = numbers.as_slice().get(object as usize) else {
+            return Ok(Lead::Unknown);
+        };
+        let birth = Birth {
+            object,
+            state: *state,
+            name,
+            class,
+        };
+        match self.new(birth) {
+            Ok(None) => Ok(Lead::Unknown),
+            Ok(Some(Two::Impossible)) => Ok(Lead::Impossible),
+            Ok(Some(Two::To(maker, new))) => {
+                numbers[object as usize] = maker;
+                numbers.push(new)?;
+                Ok(Lead::Made)
+            }
+            Err(_) => Err(AllocError),
+        }
+    }
+
+    /// Makes the transition with this label in this row. `Unknown` if it is local; if it makes an object not under the next
+    /// name; if it takes the first message of its sender for a method, and others are before it; if it is an answer or a
+    /// return where a message from the caller waits; if the row has no such objects, or if the table of states is full.
+    /// An error means out of memory.
+    fn make_in(
+        &mut self,
+        numbers: &mut Vec<u32>,
+        messages: &mut BTreeMap<(u32, u32), VecDeque<Mail>>,
+        label: &Label,
+    ) -> Result<Lead, AllocError>
+        requires within { AreWithin (states self.old.table) numbers.old.items }
+        ensures grows { take (length (states self.old.table)) (states self.new.table) ≡ states self.old.table }
+        ensures program { self.new.program ≡ self.old.program }
+        ensures within { IfOk result (λ _. AreWithin (states self.new.table) numbers.new.items) }
+        ensures impossible { result ≡ Ok Lead.Impossible → transition (program_of self.old.program.now) (row (states self.old.table) numbers.old.items (posts messages.old.entries)) label.now ≡ None }
+        ensures made { result ≡ Ok Lead.Made → transition (program_of self.old.program.now) (row (states self.old.table) numbers.old.items (posts messages.old.entries)) label.now ≡ Some (row (states self.new.table) numbers.new.items (posts messages.new.entries)) }
     {
         match *label {
             Label::Write { object, item } => self.make_one(numbers, object, Solo::Write(item)),
@@ -144,15 +248,46 @@ impl<'a> MoveTable<'a> {
                 caller,
                 method,
                 args,
-            } => self.make_two(numbers, receiver, caller, &Duo::answer(method, args)),
+            } => self.make_two(
+                numbers,
+                messages,
+                receiver,
+                caller,
+                &Duo::answer(method, args),
+            ),
             Label::Return {
                 receiver,
                 caller,
                 value,
-            } => self.make_two(numbers, receiver, caller, &Duo::give(value)),
-            Label::Local { .. } | Label::New { .. } | Label::Send { .. } | Label::Take { .. } => {
-                Ok(Lead::Unknown)
-            }
+            } => self.make_two(numbers, messages, receiver, caller, &Duo::give(value)),
+            Label::Send {
+                object,
+                receiver,
+                method,
+                args,
+            } => self.make_mail(
+                numbers,
+                messages,
+                object,
+                &Parcel::to_receiver(receiver, method, args),
+            ),
+            Label::Take {
+                receiver,
+                sender,
+                method,
+                args,
+            } => self.make_mail(
+                numbers,
+                messages,
+                receiver,
+                &Parcel::from_sender(sender, method, args),
+            ),
+            Label::New {
+                object,
+                name,
+                class,
+            } => self.make_new(numbers, object, name, class),
+            Label::Local { .. } => Ok(Lead::Unknown),
         }
     }
 
@@ -164,7 +299,7 @@ impl<'a> MoveTable<'a> {
         ensures grows { take (length (states self.old.table)) (states self.new.table) ≡ states self.old.table }
         ensures program { self.new.program ≡ self.old.program }
         ensures within { IfOk result (λ _. AreWithin (states self.new.table) numbers.new.items) }
-        ensures follows { IfOk result (λ o. IfSome o (λ _. (s : Bool) → Follows (program_of self.old.program.now) (course s) (row (states self.old.table) numbers.old.items) (row (states self.new.table) numbers.new.items))) }
+        ensures follows { IfOk result (λ o. IfSome o (λ _. (s : Bool) (ms : List ((ℕ × ℕ) × List Message)) → Follows (program_of self.old.program.now) (course s) (row (states self.old.table) numbers.old.items ms) (row (states self.new.table) numbers.new.items ms))) }
     {
         let Some(state) = numbers.as_slice().get(object as usize) else {
             return Ok(None);
@@ -179,11 +314,45 @@ impl<'a> MoveTable<'a> {
         }
     }
 
+    /// Sends the message with this number, and adds the object to `moved`. `false` if it cannot tell. An error means out of
+    /// memory.
+    fn settle_send(
+        &mut self,
+        numbers: &mut Vec<u32>,
+        messages: &mut BTreeMap<(u32, u32), VecDeque<Mail>>,
+        moved: &mut Vec<u32>,
+        object: u32,
+        at: u32,
+    ) -> Result<bool, AllocError>
+        requires within { AreWithin (states self.old.table) numbers.old.items }
+        ensures grows { take (length (states self.old.table)) (states self.new.table) ≡ states self.old.table }
+        ensures program { self.new.program ≡ self.old.program }
+        ensures within { IfOk result (λ _. AreWithin (states self.new.table) numbers.new.items) }
+        ensures follows { result ≡ Ok true → (s : Bool) → (f : Follows (program_of self.old.program.now) (course s) (row (states self.old.table) numbers.old.items (posts messages.old.entries)) (row (states self.new.table) numbers.new.items (posts messages.new.entries))) × HasMoved (passes f) moved.old.items moved.new.items }
+    {
+        let Some(act) = self.sent_next(at) else {
+            return Ok(false);
+        };
+        if act.takes {
+            return Ok(false);
+        }
+        match self.make_mail(numbers, messages, object, &act) {
+            Ok(Lead::Unknown) => Ok(false),
+            Ok(Lead::Impossible) => Ok(false),
+            Ok(Lead::Made) => {
+                moved.push(object)?;
+                Ok(true)
+            }
+            Err(_) => Err(AllocError),
+        }
+    }
+
     /// Follows the transitions of one object in this row. The objects that take part in one that is not local are added
     /// to `moved`. `false` if it cannot tell. An error means out of memory.
     fn settle_object(
         &mut self,
         numbers: &mut Vec<u32>,
+        messages: &mut BTreeMap<(u32, u32), VecDeque<Mail>>,
         moved: &mut Vec<u32>,
         object: u32,
         silent: bool,
@@ -192,14 +361,14 @@ impl<'a> MoveTable<'a> {
         ensures grows { take (length (states self.old.table)) (states self.new.table) ≡ states self.old.table }
         ensures program { self.new.program ≡ self.old.program }
         ensures within { IfOk result (λ _. AreWithin (states self.new.table) numbers.new.items) }
-        ensures follows { result ≡ Ok true → Follows (program_of self.old.program.now) (course silent) (row (states self.old.table) numbers.old.items) (row (states self.new.table) numbers.new.items) }
+        ensures follows { result ≡ Ok true → (f : Follows (program_of self.old.program.now) (course silent) (row (states self.old.table) numbers.old.items (posts messages.old.entries)) (row (states self.new.table) numbers.new.items (posts messages.new.entries))) × HasMoved (passes f) moved.old.items moved.new.items }
     {
         let Some(next) = self.rest_in(numbers, object)? else {
             return Ok(false);
         };
         match next {
             Next::Nothing => Ok(true),
-            Next::Sends => Ok(false),
+            Next::Sends(at) => self.settle_send(numbers, messages, moved, object, at),
             Next::Makes(act) => {
                 if !is_followed(silent, act) {
                     return Ok(true);
@@ -215,7 +384,7 @@ impl<'a> MoveTable<'a> {
                 }
             }
             Next::Returns { caller, value } => {
-                match self.make_two(numbers, object, caller, &Duo::give(value)) {
+                match self.make_two(numbers, messages, object, caller, &Duo::give(value)) {
                     Ok(Lead::Unknown) => Ok(false),
                     Ok(Lead::Impossible) => Ok(false),
                     Ok(Lead::Made) => {
@@ -234,6 +403,7 @@ impl<'a> MoveTable<'a> {
     fn settle_row(
         &mut self,
         numbers: &mut Vec<u32>,
+        messages: &mut BTreeMap<(u32, u32), VecDeque<Mail>>,
         moved: &mut Vec<u32>,
         silent: bool,
     ) -> Result<bool, AllocError>
@@ -241,13 +411,13 @@ impl<'a> MoveTable<'a> {
         ensures grows { take (length (states self.old.table)) (states self.new.table) ≡ states self.old.table }
         ensures program { self.new.program ≡ self.old.program }
         ensures within { IfOk result (λ _. AreWithin (states self.new.table) numbers.new.items) }
-        ensures follows { result ≡ Ok true → Follows (program_of self.old.program.now) (course silent) (row (states self.old.table) numbers.old.items) (row (states self.new.table) numbers.new.items) }
+        ensures follows { result ≡ Ok true → (f : Follows (program_of self.old.program.now) (course silent) (row (states self.old.table) numbers.old.items (posts messages.old.entries)) (row (states self.new.table) numbers.new.items (posts messages.new.entries))) × HasMoved (passes f) moved.old.items moved.new.items }
     {
-        for _made in 0..MOST {
-            let Some(object) = moved.pop() else {
+        for at in 0..MOST {
+            let Some(object) = moved.as_slice().get(at as usize).copied() else {
                 return Ok(true);
             };
-            match self.settle_object(numbers, moved, object, silent) {
+            match self.settle_object(numbers, messages, moved, object, silent) {
                 Ok(true) => {}
                 Ok(false) => return Ok(false),
                 Err(_) => return Err(AllocError),
@@ -256,12 +426,40 @@ impl<'a> MoveTable<'a> {
         Ok(false)
     }
 
-    /// Makes the transition with this label in this row, where no message waits, and follows those that need no choice,
-    /// without writes if `silent`. `Unknown` if it cannot tell, since the label or what is followed makes an object, or
-    /// sends or takes a message, or since a bound is met; the row is then unspecified. An error means out of memory.
+    /// Follows the transitions of the object that this label makes, if it makes one. `false` if it cannot tell. An error
+    /// means out of memory.
+    fn settle_new(
+        &mut self,
+        numbers: &mut Vec<u32>,
+        messages: &mut BTreeMap<(u32, u32), VecDeque<Mail>>,
+        moved: &mut Vec<u32>,
+        label: &Label,
+        silent: bool,
+    ) -> Result<bool, AllocError>
+        requires within { AreWithin (states self.old.table) numbers.old.items }
+        ensures grows { take (length (states self.old.table)) (states self.new.table) ≡ states self.old.table }
+        ensures program { self.new.program ≡ self.old.program }
+        ensures within { IfOk result (λ _. AreWithin (states self.new.table) numbers.new.items) }
+        ensures follows { result ≡ Ok true → (f : Follows (program_of self.old.program.now) (course silent) (row (states self.old.table) numbers.old.items (posts messages.old.entries)) (row (states self.new.table) numbers.new.items (posts messages.new.entries))) × HasMoved (passes f) moved.old.items moved.new.items }
+    {
+        match *label {
+            Label::New { name, .. } => {
+                self.settle_object(numbers, messages, moved, name, silent)
+            }
+            _ => Ok(true),
+        }
+    }
+
+    /// Makes the transition with this label in this row, and follows those that need no choice, without writes if
+    /// `silent`. `moved` becomes a list of objects that these transitions change. `Unknown` if it cannot tell, since the
+    /// label is local or makes an object not under the next name, since it takes the first message of its sender for a
+    /// method, and others are before it, since an answer or a return has a caller whose message waits, or since a bound is
+    /// met; the row and the messages are then unspecified. An error means out of memory.
     pub fn lead(
         &mut self,
         numbers: &mut Vec<u32>,
+        messages: &mut BTreeMap<(u32, u32), VecDeque<Mail>>,
+        moved: &mut Vec<u32>,
         label: &Label,
         silent: bool,
     ) -> Result<Lead, AllocError>
@@ -269,18 +467,23 @@ impl<'a> MoveTable<'a> {
         ensures grows { take (length (states self.old.table)) (states self.new.table) ≡ states self.old.table }
         ensures program { self.new.program ≡ self.old.program }
         ensures within { IfOk result (λ _. AreWithin (states self.new.table) numbers.new.items) }
-        ensures impossible { result ≡ Ok Lead.Impossible → transition (program_of self.old.program.now) (row (states self.old.table) numbers.old.items) label.now ≡ None }
-        ensures made { result ≡ Ok Lead.Made → (d : Configuration) × (transition (program_of self.old.program.now) (row (states self.old.table) numbers.old.items) label.now ≡ Some d) × Follows (program_of self.old.program.now) (course silent) d (row (states self.new.table) numbers.new.items) }
+        ensures impossible { result ≡ Ok Lead.Impossible → transition (program_of self.old.program.now) (row (states self.old.table) numbers.old.items (posts messages.old.entries)) label.now ≡ None }
+        ensures made { result ≡ Ok Lead.Made → (d : Configuration) × (transition (program_of self.old.program.now) (row (states self.old.table) numbers.old.items (posts messages.old.entries)) label.now ≡ Some d) × (f : Follows (program_of self.old.program.now) (course silent) d (row (states self.new.table) numbers.new.items (posts messages.new.entries))) × AreChanged (label.now ∷ passes f) moved.new.items }
     {
-        match self.make_in(numbers, label) {
+        match self.make_in(numbers, messages, label) {
             Ok(Lead::Made) => {}
             Ok(Lead::Unknown) => return Ok(Lead::Unknown),
             Ok(Lead::Impossible) => return Ok(Lead::Impossible),
             Err(_) => return Err(AllocError),
         }
-        let mut moved = self.none_moved();
-        push_movers(&mut moved, label)?;
-        match self.settle_row(numbers, &mut moved, silent) {
+        moved.clear();
+        push_movers(moved, label)?;
+        match self.settle_new(numbers, messages, moved, label, silent) {
+            Ok(true) => {}
+            Ok(false) => return Ok(Lead::Unknown),
+            Err(_) => return Err(AllocError),
+        }
+        match self.settle_row(numbers, messages, moved, silent) {
             Ok(true) => Ok(Lead::Made),
             Ok(false) => Ok(Lead::Unknown),
             Err(_) => Err(AllocError),

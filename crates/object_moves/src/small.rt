@@ -4,9 +4,10 @@ ghost use Rattle.pool_syntax.specs.TreeOf.{program_of};
 ghost use Rattle.pool_relation.specs.Action.{Object};
 ghost use Rattle.pool_semantics.specs.Plains.{configuration};
 ghost use Rattle.stepper_objects.specs.ObjectStates.{thing_object};
-ghost use Rattle.object_moves.specs.Effects.{alone, strolled, together};
+ghost use Rattle.pool_semantics.specs.Mails.{message_of};
+ghost use Rattle.object_moves.specs.Effects.{alone, strolled, together, with_message};
 
-use pool_semantics::State;
+use pool_semantics::{Mail, State, post};
 use pool_syntax::Program;
 use search_states::copy;
 use std::alloc::{AllocError, Global};
@@ -52,6 +53,24 @@ pub fn together<'a>(
     let mut small = alone(alloc, program, first, one)?;
     let copied = copy(alloc, other)?;
     small.objects.insert(second, copied)?;
+    Ok(small)
+}
+
+/// The configuration with a copy of this object under two names, and with a message from the second to the first. If the
+/// names are the same, there is one object. An error means out of memory.
+pub fn with_message<'a>(
+    alloc: Global,
+    program: &'a Program,
+    first: u32,
+    thing: &ObjectState<'a>,
+    second: u32,
+    mail: Mail,
+) -> Result<State<'a>, AllocError>
+    ensures program { IfOk result (λ s. program_of s.program.now ≡ program_of program.now) }
+    ensures objects { IfOk result (λ s. configuration s ≡ with_message first (thing_object thing.now) second (message_of mail)) }
+{
+    let mut small = together(alloc, program, first, thing, second, thing)?;
+    post(alloc, &mut small.messages, second, first, mail)?;
     Ok(small)
 }
 

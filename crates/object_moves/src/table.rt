@@ -4,15 +4,20 @@ ghost use Rattle.std.specs.List.{All};
 ghost use Rattle.pool_syntax.specs.TreeOf.{program_of};
 ghost use Rattle.search_states.specs.States.{states};
 ghost use Rattle.stepper_objects.specs.ObjectStates.{thing_object};
-ghost use Rattle.object_moves.specs.Effects.{effect_one, effect_two, strolled};
+ghost use Rattle.object_moves.specs.Effects.{effect_mail, effect_new, effect_one, effect_two, strolled};
 ghost use Rattle.object_moves.specs.Rows.{AreWithin};
-ghost use Rattle.object_moves.specs.Known.{IsKnownOne, IsKnownTwo, IsKnownRest, duo_label, numbers_of_one, numbers_of_two, one_of, solo_label, state_at, two_of};
+ghost use Rattle.object_moves.specs.Known.{IsKnownMail, IsKnownNew, IsKnownOne, IsKnownTwo, IsKnownRest, birth_label, duo_label, numbers_of_one, numbers_of_two, one_of, parcel_label, solo_label, state_at, two_of};
 
-use crate::known::{Duo, KnownOne, KnownRest, KnownTwo, Next, One, Pair, Solo, Two};
-use crate::labels::{
-    duo_label, mark_one, mark_rest, mark_two, same_duo, same_pair, same_solo, solo_label,
+use crate::known::{
+    Birth, Duo, KnownMail, KnownNew, KnownOne, KnownRest, KnownTwo, Next, One, Pair, Parcel, Solo,
+    Two,
 };
-use crate::small::{alone, stroll, together};
+use crate::labels::{
+    birth_label, duo_label, mark_mail, mark_new, mark_one, mark_rest, mark_two, parcel_label,
+    same_birth, same_duo, same_pair, same_parcel, same_solo, solo_label,
+};
+use crate::small::{alone, stroll, together, with_message};
+use pool_semantics::redex_args;
 use pool_syntax::Program;
 use search_states::StateTable;
 use std::alloc::{AllocError, Global};
@@ -28,17 +33,25 @@ pub struct MoveTable<'a> {
     program: &'a Program,
     table: StateTable<'a>,
     ones: Vec<KnownOne>,
+    mails: Vec<KnownMail>,
+    news: Vec<KnownNew>,
     twos: Vec<KnownTwo>,
     rests: Vec<KnownRest>,
+    /// The messages that objects send after their local transitions.
+    sent: Vec<Parcel>,
     latest_ones: HashMap<u64, u32>,
+    latest_mails: HashMap<u64, u32>,
+    latest_news: HashMap<u64, u32>,
     latest_twos: HashMap<u64, u32>,
     latest_rests: HashMap<u64, u32>,
     ghost known_ones: { All (IsKnownOne (program_of program.now) (states table)) ones.items },
+    ghost known_mails: { All (IsKnownMail (program_of program.now) (states table)) mails.items },
+    ghost known_news: { All (IsKnownNew (program_of program.now) (states table)) news.items },
     ghost known_twos: { All (IsKnownTwo (program_of program.now) (states table)) twos.items },
     ghost known_rests: { All (IsKnownRest (program_of program.now) (states table)) rests.items },
 }
 
-/// What an object in this state makes next, if it is no local transition and needs no choice.
+/// What an object in this state makes next, if it is no local transition, needs no choice and sends no message.
 fn next_of<'a>(program: &'a Program, object: u32, thing: &ObjectState<'a>) -> Next {
     if thing.fault.is_some() {
         return Next::Nothing;
@@ -47,8 +60,26 @@ fn next_of<'a>(program: &'a Program, object: u32, thing: &ObjectState<'a>) -> Ne
         Act::Return { caller, value } => Next::Returns { caller, value },
         Act::Write(item) => Next::Makes(Solo::Write(item)),
         Act::Fault(error) => Next::Makes(Solo::Fault(error)),
-        Act::Async { .. } => Next::Sends,
         _ => Next::Nothing,
+    }
+}
+
+/// The message that an object in this state sends next. None if it sends none.
+fn next_message<'a>(program: &'a Program, object: u32, thing: &ObjectState<'a>) -> Option<Parcel> {
+    if thing.fault.is_some() {
+        return None;
+    }
+    match thing.act(program, object) {
+        Act::Async { to, method } => match redex_args(&thing.work) {
+            None => None,
+            Some(args) => Some(Parcel {
+                takes: false,
+                other: to,
+                method,
+                args,
+            }),
+        },
+        _ => None,
     }
 }
 
@@ -63,9 +94,14 @@ impl<'a> MoveTable<'a> {
             program,
             table: StateTable::make(alloc),
             ones: Vec::new(alloc),
+            mails: Vec::new(alloc),
+            news: Vec::new(alloc),
             twos: Vec::new(alloc),
             rests: Vec::new(alloc),
+            sent: Vec::new(alloc),
             latest_ones: HashMap::new(alloc),
+            latest_mails: HashMap::new(alloc),
+            latest_news: HashMap::new(alloc),
             latest_twos: HashMap::new(alloc),
             latest_rests: HashMap::new(alloc),
         }
@@ -78,9 +114,14 @@ impl<'a> MoveTable<'a> {
         self.program
     }
 
-    /// An empty list of numbers.
-    pub fn none_moved(&self) -> Vec<u32> {
-        Vec::new(self.alloc)
+    /// The allocator of its memory.
+    pub fn alloc(&self) -> Global {
+        self.alloc
+    }
+
+    /// The message with this number, that an object sends after its local transitions. None if there is none.
+    pub fn sent_next(&self, at: u32) -> Option<Parcel> {
+        self.sent.as_slice().get(at as usize).copied()
     }
 
     /// The object with this number. None if the table has no such number.
@@ -177,6 +218,172 @@ impl<'a> MoveTable<'a> {
             to,
         };
         self.keep_one(hash, known)?;
+        Ok(Some(to))
+    }
+
+    /// What is known of this message that an object sends or takes.
+    fn known_mail(&self, hash: u64, object: u32, state: u32, act: &Parcel) -> Option<One>
+        ensures is { IfSome result (λ m. effect_mail (program_of self.now.program.now) (parcel_label object act.now) (state_at (states self.now.table) state) ≡ one_of (states self.now.table) m) }
+        ensures within { IfSome result (λ m. AreWithin (states self.now.table) (numbers_of_one m)) }
+    {
+        let at = *self.latest_mails.get(&hash)?;
+        let known = self.mails.as_slice().get(at as usize)?;
+        if known.object == object && known.state == state && same_parcel(&known.act, act) {
+            Some(known.to)
+        } else {
+            None
+        }
+    }
+
+    /// What a message that is sent or taken makes of the object in this state. None if the table of states is full. An
+    /// error means out of memory.
+    fn compute_mail(
+        &mut self,
+        object: u32,
+        state: u32,
+        act: &Parcel,
+    ) -> Result<Option<One>, AllocError>
+        requires state { state < length (states self.old.table) }
+        ensures grows { take (length (states self.old.table)) (states self.new.table) ≡ states self.old.table }
+        ensures program { self.new.program ≡ self.old.program }
+        ensures is { IfOk result (λ o. IfSome o (λ m. effect_mail (program_of self.old.program.now) (parcel_label object act.now) (state_at (states self.old.table) state) ≡ one_of (states self.new.table) m)) }
+        ensures within { IfOk result (λ o. IfSome o (λ m. AreWithin (states self.new.table) (numbers_of_one m))) }
+    {
+        let Some(thing) = self.table.get(state) else {
+            unreachable!();
+        };
+        let mail = act.mail();
+        let mut small = with_message(self.alloc, self.program, object, thing, act.other, mail)?;
+        if !small.step(&parcel_label(object, act))? {
+            return Ok(Some(One::Impossible));
+        }
+        let Some(after) = small.objects.get(&object) else {
+            return Ok(None);
+        };
+        match self.number_of(after)? {
+            Some(to) => Ok(Some(One::To(to))),
+            None => Ok(None),
+        }
+    }
+
+    /// Keeps what a message makes of an object, if there is room for it. An error means out of memory.
+    fn keep_mail(&mut self, hash: u64, known: KnownMail) -> Result<(), AllocError>
+        requires { IsKnownMail (program_of self.old.program.now) (states self.old.table) known }
+        ensures states { states self.new.table ≡ states self.old.table }
+        ensures program { self.new.program ≡ self.old.program }
+    {
+        let Ok(at) = u32::try_from(self.mails.len()) else {
+            return Ok(());
+        };
+        self.latest_mails.insert(hash, at)?;
+        self.mails.push(known)?;
+        Ok(())
+    }
+
+    /// What a message that is sent or taken makes of the object in this state. None if the table of states is full. An
+    /// error means out of memory.
+    pub fn mail(&mut self, object: u32, state: u32, act: &Parcel) -> Result<Option<One>, AllocError>
+        requires state { state < length (states self.old.table) }
+        ensures grows { take (length (states self.old.table)) (states self.new.table) ≡ states self.old.table }
+        ensures program { self.new.program ≡ self.old.program }
+        ensures is { IfOk result (λ o. IfSome o (λ m. effect_mail (program_of self.old.program.now) (parcel_label object act.now) (state_at (states self.old.table) state) ≡ one_of (states self.new.table) m)) }
+        ensures within { IfOk result (λ o. IfSome o (λ m. AreWithin (states self.new.table) (numbers_of_one m))) }
+    {
+        let hash = mark_mail(object, state, act);
+        if let Some(to) = self.known_mail(hash, object, state, act) {
+            return Ok(Some(to));
+        }
+        let Some(to) = self.compute_mail(object, state, act)? else {
+            return Ok(None);
+        };
+        let known = KnownMail {
+            object,
+            state,
+            act: *act,
+            to,
+        };
+        self.keep_mail(hash, known)?;
+        Ok(Some(to))
+    }
+
+    /// What is known of this transition that makes an object.
+    fn known_new(&self, hash: u64, birth: Birth) -> Option<Two>
+        ensures is { IfSome result (λ m. effect_new (program_of self.now.program.now) (birth_label birth) (state_at (states self.now.table) birth.state) ≡ two_of (states self.now.table) m) }
+        ensures within { IfSome result (λ m. AreWithin (states self.now.table) (numbers_of_two m)) }
+    {
+        let at = *self.latest_news.get(&hash)?;
+        let known = self.news.as_slice().get(at as usize)?;
+        if same_birth(known.birth, birth) {
+            Some(known.to)
+        } else {
+            None
+        }
+    }
+
+    /// What a transition that makes an object makes of its maker, and the new object. None if the table of states is full.
+    /// An error means out of memory.
+    fn compute_new(&mut self, birth: Birth) -> Result<Option<Two>, AllocError>
+        requires state { birth.state < length (states self.old.table) }
+        requires apart { birth.object ≢ birth.name }
+        ensures grows { take (length (states self.old.table)) (states self.new.table) ≡ states self.old.table }
+        ensures program { self.new.program ≡ self.old.program }
+        ensures is { IfOk result (λ o. IfSome o (λ m. effect_new (program_of self.old.program.now) (birth_label birth) (state_at (states self.old.table) birth.state) ≡ two_of (states self.new.table) m)) }
+        ensures within { IfOk result (λ o. IfSome o (λ m. AreWithin (states self.new.table) (numbers_of_two m))) }
+    {
+        let Some(thing) = self.table.get(birth.state) else {
+            unreachable!();
+        };
+        let mut small = alone(self.alloc, self.program, birth.object, thing)?;
+        if !small.step(&birth_label(birth))? {
+            return Ok(Some(Two::Impossible));
+        }
+        let Some(after) = small.objects.get(&birth.object) else {
+            return Ok(None);
+        };
+        let Some(maker) = self.number_of(after)? else {
+            return Ok(None);
+        };
+        let Some(made) = small.objects.get(&birth.name) else {
+            return Ok(None);
+        };
+        match self.number_of(made)? {
+            Some(new) => Ok(Some(Two::To(maker, new))),
+            None => Ok(None),
+        }
+    }
+
+    /// Keeps what a transition that makes an object leads to, if there is room for it. An error means out of memory.
+    fn keep_new(&mut self, hash: u64, known: KnownNew) -> Result<(), AllocError>
+        requires { IsKnownNew (program_of self.old.program.now) (states self.old.table) known }
+        ensures states { states self.new.table ≡ states self.old.table }
+        ensures program { self.new.program ≡ self.old.program }
+    {
+        let Ok(at) = u32::try_from(self.news.len()) else {
+            return Ok(());
+        };
+        self.latest_news.insert(hash, at)?;
+        self.news.push(known)?;
+        Ok(())
+    }
+
+    /// What a transition that makes an object makes of its maker, and the new object. None if the table of states is full.
+    /// An error means out of memory.
+    pub fn new(&mut self, birth: Birth) -> Result<Option<Two>, AllocError>
+        requires state { birth.state < length (states self.old.table) }
+        requires apart { birth.object ≢ birth.name }
+        ensures grows { take (length (states self.old.table)) (states self.new.table) ≡ states self.old.table }
+        ensures program { self.new.program ≡ self.old.program }
+        ensures is { IfOk result (λ o. IfSome o (λ m. effect_new (program_of self.old.program.now) (birth_label birth) (state_at (states self.old.table) birth.state) ≡ two_of (states self.new.table) m)) }
+        ensures within { IfOk result (λ o. IfSome o (λ m. AreWithin (states self.new.table) (numbers_of_two m))) }
+    {
+        let hash = mark_new(birth);
+        if let Some(to) = self.known_new(hash, birth) {
+            return Ok(Some(to));
+        }
+        let Some(to) = self.compute_new(birth)? else {
+            return Ok(None);
+        };
+        self.keep_new(hash, KnownNew { birth, to })?;
         Ok(Some(to))
     }
 
@@ -292,6 +499,18 @@ impl<'a> MoveTable<'a> {
         }
     }
 
+    /// What an object makes next that sends this message. An error means out of memory.
+    fn sends(&mut self, act: Parcel) -> Result<Next, AllocError>
+        ensures states { states self.new.table ≡ states self.old.table }
+        ensures program { self.new.program ≡ self.old.program }
+    {
+        let Ok(at) = u32::try_from(self.sent.len()) else {
+            return Ok(Next::Nothing);
+        };
+        self.sent.push(act)?;
+        Ok(Next::Sends(at))
+    }
+
     /// Makes the local transitions of the object in this state. None if they are too many, or if the table of states is
     /// full. An error means out of memory.
     fn compute_rest(&mut self, object: u32, state: u32) -> Result<Option<KnownRest>, AllocError>
@@ -310,17 +529,20 @@ impl<'a> MoveTable<'a> {
         let Some(after) = small.objects.get(&object) else {
             return Ok(None);
         };
-        let next = next_of(self.program, object, after);
-        match self.number_of(after)? {
-            Some(to) => Ok(Some(KnownRest {
-                object,
-                state,
-                steps,
-                to,
-                next,
-            })),
-            None => Ok(None),
-        }
+        let Some(to) = self.number_of(after)? else {
+            return Ok(None);
+        };
+        let next = match next_message(self.program, object, after) {
+            Some(act) => self.sends(act)?,
+            None => next_of(self.program, object, after),
+        };
+        Ok(Some(KnownRest {
+            object,
+            state,
+            steps,
+            to,
+            next,
+        }))
     }
 
     /// Keeps where local transitions lead, if there is room for it. An error means out of memory.

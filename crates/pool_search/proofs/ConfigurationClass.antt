@@ -9,12 +9,23 @@ use Rattle.pool_relation.specs.Progress.{HasOwnTransition}
 use Rattle.pool_relation.specs.Transition.{transition}
 use Rattle.pool_semantics.specs.declared.plain.waits.Waiting.{Waiting}
 use Rattle.reachability.specs.Search.{IsAtEnd, IsStuck, IsFaulty, WaitsAt}
+use Rattle.pool_search.specs.declared.queries.Query.{Query}
+use Rattle.pool_search.specs.SearchAnswers.{IsPassedBy}
 use Rattle.pool_search.specs.SearchTargets.{IsStuckEnd}
+use Rattle.pool_search.specs.Trials.{CanMove}
 
 -- what counts as stuck has no transition
 pub at_end : (all : Bool) (p : ProgramTree) (c : Configuration) → IsStuckEnd all p c → IsAtEnd p c
 at_end false p c s = s.at_end
 at_end true p c s = s.at_end
+
+-- where a label is possible, and no object has met an error, is nothing that a query looks for
+pub passed_by_move : (p : ProgramTree) (q : Query) (c : Configuration) → CanMove p c → ¬ (IsFaulty c) → IsPassedBy p q c
+passed_by_move p q c moves sound =
+    record {
+      not_end = λ w. absurd (let z : None ≡ Some moves.next = sym (at_end q.all p c w.holds moves.label) ∙ moves.step in cc);
+      not_faulty = λ w. sound w.holds;
+    }
 
 -- where an object moves, nothing is stuck
 pub not_stuck : (all : Bool) (p : ProgramTree) (c : Configuration) (o : Option ℕ) → is_some o ≡ true → IfSome o (HasOwnTransition p c) → ¬ (IsStuckEnd all p c)

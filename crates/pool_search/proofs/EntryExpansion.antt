@@ -1,5 +1,5 @@
 -- What the visit of one entry adds to the progress of a search.
-use Rattle.std.proofs.Common.{◌≡◌, ◌≤◌, ◌<◌, inl, refl, sym, ap, ◌∙◌, subst, cond, ℕ, zero, suc, List, [], ◌∷◌, ◌++◌, length, get_or, Option, Some, None, Bool, true, false, arith, length-append}
+use Rattle.std.proofs.Common.{◌≡◌, ◌≤◌, ◌<◌, refl, sym, ap, ◌∙◌, subst, cond, ℕ, zero, suc, List, [], ◌∷◌, ◌++◌, length, take, get_or, Option, Some, None, Bool, true, false, arith, length-append}
 use Rattle.std.specs.Prelude.{IfSome}
 use Rattle.std.specs.List.{filter, slice_get}
 use Rattle.std.proofs.lemmas.Option.{slice_get_within}
@@ -14,41 +14,32 @@ use Rattle.reachability.specs.Labels.{labels_to_try}
 use Rattle.search_laws.specs.Outcomes.{Passed}
 use Rattle.search_laws.specs.Stubborn.{IsAwaited, is_served}
 use Rattle.search_laws.specs.Tried.{Course, KeepsNothing, AllLeadInto, Follows, IsExpanded, IsLabelTried, LeadsAt, LeadsInto, Every, Those}
-use Rattle.pool_search.specs.Entries.{IsEntryAt}
 use Rattle.pool_search.specs.VisitedConfigurations.{entry}
 use Rattle.pool_search.specs.Progress.{Entries, AllReached, Grows, HasSearched, IsReachedWith, IsSearchedTo}
-use Rattle.pool_search.specs.Trials.{is_asked, IsLedTo, OneLeadsOn, SettlesAt}
+use Rattle.pool_search.specs.Trials.{CanMove, is_asked, IsLedBy, OneLeadsOn, SettlesAt}
 use Rattle.pool_search.proofs.ListGrowth.{each_at, each_more, entry_grown, in_at, labels_grown, led_grown}
 use Rattle.pool_search.proofs.RunExtension.{reached_more, reached_on}
 use Rattle.pool_search.proofs.SearchComplete.{searched_grows, searched_next}
 
--- an entry from its parts
-pub entry_is : (es : Entries) (at n : ℕ) (c : Configuration) → at < length es → IfSome (slice_get es at) (λ e. n ≡ e.next) → IfSome (slice_get es at) (λ e. c ≡ e.configuration)
-    → IsEntryAt es at n c
-entry_is es at n c inside name is = by (slice_get es at) refl name is
-  where
-    by : (o : Option Passed) → slice_get es at ≡ o → IfSome o (λ e. n ≡ e.next) → IfSome o (λ e. c ≡ e.configuration) → IsEntryAt es at n c
-    by None i h k = absurd (none es at inside i)
-      where
-        none : (es : Entries) (at : ℕ) → at < length es → slice_get es at ≡ None → ⊥
-        none [] at inside i = absurd (omega arith)
-        none (e ∷ es) zero inside i = cc
-        none (e ∷ es) (suc at) inside i = none es at (omega arith) i
-    by (Some e) i h k = (e.items, i ∙ ap (λ (m : ℕ). Some (entry m e.items e.configuration)) (sym h) ∙ ap (λ (d : Configuration). Some (entry n e.items d)) (sym k))
-
--- the entry is still there after the list has grown
-pub still_there : (es fs : Entries) (at n : ℕ) (c d : Configuration) (added : Entries) → fs ≡ es ++ added → d ≡ c → IsEntryAt es at n c → IsEntryAt fs at n d
-still_there es fs at n c d added grown same there = (
-  there.0,
-  subst (λ (xs : Entries). slice_get xs at ≡ Some (entry n there.0 d)) (sym grown)
-      (entry_grown es added at (entry n there.0 d) (there.1 ∙ ap (λ (x : Configuration). Some (entry n there.0 x)) (sym same))),
-)
-
--- the entry is the one of these parts
-pub parts_of : (es : Entries) (at n : ℕ) (c : Configuration) (e : Passed) → slice_get es at ≡ Some e → (there : IsEntryAt es at n c) → e ≡ entry n there.0 c
-parts_of es at n c e g there = same_some (sym g ∙ there.1)
+-- the entry at a place within the list
+pub entry_there : (es : Entries) (at : ℕ) → at < length es → (e : Passed) × (slice_get es at ≡ Some e)
+entry_there [] at inside = absurd (omega arith)
+entry_there (e ∷ es) zero inside = (e, refl)
+entry_there (e ∷ es) (suc at) inside = entry_there es at (omega arith)
 
 module _ (p : ProgramTree) (k : Course) where
+  -- an entry is still there after the list has grown, and was there before
+  pub still_within : (most : ℕ) (es fs : Entries) (at : ℕ) → Grows p k most es fs → at < length es → at < length fs
+  still_within most es fs at grows inside = omega (arith, inside, ap (λ (xs : Entries). length xs) grows.is, length-append es grows.added)
+
+  pub still_there : (most : ℕ) (es fs : Entries) (at : ℕ) (e : Passed) → Grows p k most es fs → slice_get es at ≡ Some e → slice_get fs at ≡ Some e
+  still_there most es fs at e grows there = subst (λ (xs : Entries). slice_get xs at ≡ Some e) (sym grows.is) (entry_grown es grows.added at e there)
+
+  pub was_there : (most : ℕ) (es fs : Entries) (at : ℕ) (e : Passed) → Grows p k most es fs → at < length es → slice_get fs at ≡ Some e → slice_get es at ≡ Some e
+  was_there most es fs at e grows inside there =
+      let old = entry_there es at inside in
+      old.1 ∙ sym (still_there most es fs at old.0 grows old.1) ∙ there
+
   -- one more entry is kept
   pub grows_by_one : (most : ℕ) (es : Entries) (n : ℕ) (w : List Item) (c : Configuration) → IsInOrder c → IsReachedWith p k w c → length es < most
       → Grows p k most es (es ++ entry n w c ∷ [])
@@ -83,6 +74,25 @@ module _ (p : ProgramTree) (k : Course) where
       by true h rest = (h.0, rest h.1)
       by false h rest = rest h
 
+  -- a label that is at this place was tried, if it is asked for
+  pub tried_before : (es : Entries) (e : Passed) (asked : Label → Bool) (ls : List Label) (i : ℕ) (l : Label) → slice_get ls i ≡ Some l
+      → AllLeadInto p k es e.next e.items e.configuration (filter asked (take (suc i) ls)) → asked l ≡ true → IsLabelTried p k es e.next e.items e.configuration l
+  tried_before es e asked [] i l there h a = absurd (let z : None ≡ Some l = there in cc)
+  tried_before es e asked (m ∷ ms) zero l there h a =
+      let is : m ≡ l = same_some there in
+      subst (IsLabelTried p k es e.next e.items e.configuration) is (by (asked m) (ap asked is ∙ a) h)
+    where
+      by : (b : Bool) → b ≡ true → AllLeadInto p k es e.next e.items e.configuration (cond b (m ∷ filter asked (take zero ms)) (filter asked (take zero ms)))
+          → IsLabelTried p k es e.next e.items e.configuration m
+      by true j h = h.0
+      by false j h = absurd (let z : false ≡ true = j in cc)
+  tried_before es e asked (m ∷ ms) (suc i) l there h a = tried_before es e asked ms i l there (by (asked m) h) a
+    where
+      by : (b : Bool) → AllLeadInto p k es e.next e.items e.configuration (cond b (m ∷ filter asked (take (suc i) ms)) (filter asked (take (suc i) ms)))
+          → AllLeadInto p k es e.next e.items e.configuration (filter asked (take (suc i) ms))
+      by true h = h.1
+      by false h = h
+
   -- a label and what settles after it lead to an entry
   pub led_at : (es : Entries) (n m : ℕ) (w v : List Item) (c d : Configuration) (l : Label) (place : ℕ) → transition p c l ≡ Some d → SettlesAt p k es m v d place → m ≡ after n l → v ≡ w ++ k.keeps l
       → LeadsAt p k es n w c l place
@@ -98,12 +108,6 @@ module _ (p : ProgramTree) (k : Course) where
   pub leads_by : (es : Entries) (n : ℕ) (w : List Item) (c : Configuration) (l : Label) (place : ℕ) → LeadsAt p k es n w c l place → LeadsInto p k es n w c l
   leads_by es n w c l place h = record { next = h.next; step = h.step; to = h.to; follows = h.follows; is_in = in_at es place (entry (after n l) (w ++ k.keeps l) h.to) h.there }
 
-  -- an impossible label of an entry is tried
-  pub none_tried : (es fs : Entries) (at n : ℕ) (c : Configuration) (e : Passed) (l : Label) → IsEntryAt es at n c → slice_get es at ≡ Some e → transition p c l ≡ None
-      → IsLabelTried p k fs e.next e.items e.configuration l
-  none_tried es fs at n c e l there g none =
-      inl (subst (λ (d : Configuration). transition p d l ≡ None) (ap (λ (x : Passed). x.configuration) (sym (parts_of es at n c e g there))) none)
-
   -- a label that leads on does so after the list has grown
   pub still_leads_on : (most : ℕ) (es fs : Entries) (at : ℕ) (e : Passed) (served : Option ℕ) (place : ℕ) → Grows p k most es fs → OneLeadsOn p k es at e served place
       → OneLeadsOn p k fs at e served place
@@ -115,6 +119,10 @@ module _ (p : ProgramTree) (k : Course) where
         leads = subst (λ (xs : Entries). LeadsAt p k xs e.next e.items e.configuration h.label place) (sym grows.is)
             (led_grown p k es grows.added e.next e.items e.configuration h.label place h.leads);
       }
+
+  -- a label that leads on is possible
+  pub can_move : (es : Entries) (at : ℕ) (e : Passed) (served : Option ℕ) (place : ℕ) → OneLeadsOn p k es at e served place → CanMove p e.configuration
+  can_move es at e served place h = record { label = h.label; next = h.leads.next; step = h.leads.step }
 
   -- all labels were tried
   pub by_all : (es : Entries) (at : ℕ) (e : Passed) → AllLeadInto p k es e.next e.items e.configuration (filter (is_asked None) (labels_to_try p e.next e.configuration))
@@ -156,7 +164,7 @@ module _ (p : ProgramTree) (k : Course) where
       record {
         grows = grows;
         goes_on = λ s. searched_next p k P fs at e
-            (subst (λ (xs : Entries). slice_get xs at ≡ Some e) (sym grows.is) (entry_grown es grows.added at e there)) leads holds (searched_grows p k most P es fs at inside grows s);
+            (still_there most es fs at e grows there) leads holds (searched_grows p k most P es fs at inside grows s);
       }
     where
       within : at < length es
@@ -174,16 +182,16 @@ items_after es at e old new before written more there list is =
 
 module _ (p : ProgramTree) (k : Course) where
   -- a label that is known to lead to an entry
-  pub led_known : (es : Entries) (n m : ℕ) (v : List Item) (e : Passed) (l : Label) (place : ℕ) (to : Configuration) → e.next ≡ n → IsLedTo p k e.configuration l to
-      → slice_get es place ≡ Some (entry m v to) → m ≡ after n l → v ≡ e.items ++ k.keeps l → LeadsAt p k es e.next e.items e.configuration l place
-  led_known es n m v e l place to is led there named kept =
+  pub led_known : (es : Entries) (m : ℕ) (v : List Item) (e : Passed) (l : Label) (place : ℕ) (to : Configuration) (moved : List ℕ) → IsLedBy p k e.configuration l to moved
+      → slice_get es place ≡ Some (entry m v to) → m ≡ after e.next l → v ≡ e.items ++ k.keeps l → LeadsAt p k es e.next e.items e.configuration l place
+  led_known es m v e l place to moved led there named kept =
       let settled : SettlesAt p k es m v led.next place = record { to = to; follows = led.follows; there = there } in
-      led_at p k es e.next m e.items v e.configuration led.next l place led.step settled (named ∙ ap (λ x. after x l) (sym is)) kept
+      led_at p k es e.next m e.items v e.configuration led.next l place led.step settled named kept
 
   -- a list that grew by the configuration where a label of an entry leads
-  pub grown_known : KeepsNothing k → (most : ℕ) (es fs : Entries) (at m : ℕ) (v : List Item) (e : Passed) (l : Label) (to : Configuration) → AllReached p k es → slice_get es at ≡ Some e
-      → IsLedTo p k e.configuration l to → IsInOrder to → v ≡ e.items ++ k.keeps l → fs ≡ es ++ entry m v to ∷ [] → length es < most → Grows p k most es fs
-  grown_known nothing most es fs at m v e l to reached there led sorted kept grown few =
+  pub grown_known : KeepsNothing k → (most : ℕ) (es fs : Entries) (at m : ℕ) (v : List Item) (e : Passed) (l : Label) (to : Configuration) (moved : List ℕ) → AllReached p k es → slice_get es at ≡ Some e
+      → IsLedBy p k e.configuration l to moved → IsInOrder to → v ≡ e.items ++ k.keeps l → fs ≡ es ++ entry m v to ∷ [] → length es < most → Grows p k most es fs
+  grown_known nothing most es fs at m v e l to moved reached there led sorted kept grown few =
       let here : IsReachedWith p k e.items e.configuration = each_at (λ (x : Passed). IsReachedWith p k x.items x.configuration) es at e reached there in
       let next : IsReachedWith p k v led.next =
       subst (λ (w : List Item). IsReachedWith p k w led.next) (sym kept) (reached_more p k e.items e.configuration led.next l here led.step) in

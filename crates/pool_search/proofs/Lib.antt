@@ -1,5 +1,6 @@
 pub mod SortedMaps
 pub mod ObjectNumbers
+pub mod RowObjects
 pub mod StateTableGrowth
 pub mod WrittenListsGrowth
 pub mod NumberingSteps
@@ -14,3 +15,4 @@ pub mod OutcomesComplete
 pub mod ConfigurationClass
 pub mod WaiterLaws
 pub mod KnownLeads
+pub mod MovedObjects

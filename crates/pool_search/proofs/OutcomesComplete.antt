@@ -9,9 +9,9 @@ use Rattle.pool_syntax.specs.Terms.{ProgramTree}
 use Rattle.pool_relation.specs.Configuration.{Configuration}
 use Rattle.reachability.specs.Search.{IsAtEnd}
 use Rattle.reachability.specs.Renaming.{Renaming, renamed_item}
-use Rattle.reachability.specs.Outcomes.{written, EndsWith, IsOneOf, name_none, all_name_none}
+use Rattle.reachability.specs.Outcomes.{EndsWith, IsOneOf, name_none, all_name_none}
 use Rattle.search_laws.specs.Renamed.{IsNameless}
-use Rattle.search_laws.specs.Outcomes.{Passed, IsPassed, IsWholeWithChoices, IsKeptEnd, EndsAlike}
+use Rattle.search_laws.specs.Outcomes.{Passed, IsPassed, IsWholeWithChoices, EndsAlike}
 use Rattle.search_laws.specs.Tried.{with_writes}
 use Rattle.search_laws.proofs.Laws.{every_end_is_kept_by_choices, ends_alike, at_end_kept, items_are}
 use Rattle.pool_search.specs.declared.outcomes.EndKind.{EndKind}
@@ -19,7 +19,8 @@ use Rattle.pool_search.specs.declared.outcomes.EndKind.TheVariants as K
 use Rattle.pool_search.specs.declared.outcomes.Outcome.{Outcome}
 use Rattle.pool_search.specs.VisitedConfigurations.{entry}
 use Rattle.pool_search.specs.FoundOutcomes.{HasOne, IsNoted}
-use Rattle.pool_search.specs.OutcomeTargets.{IsOfKind, IsEndOf, IsRunOf, IsShown, HasOutcome, HasAllOutcomes, outputs_of}
+use Rattle.pool_search.specs.OutcomeTargets.{IsOfKind, IsShown, HasOutcome, HasAllOutcomes, outputs_of}
+use Rattle.pool_search.specs.Trials.{CanMove}
 use Rattle.pool_search.specs.Progress.{Entries, IsReachedWith, IsSearchedTo}
 use Rattle.pool_search.proofs.ListGrowth.{each_more}
 use Rattle.pool_search.proofs.RunExtension.{gathers_writes}
@@ -88,6 +89,10 @@ has_more p (o ∷ os) more w d (inr h) = inr (has_more p os more w d h)
 
 pub noted_more : (p : ProgramTree) (os more new : List Outcome) → new ≡ os ++ more → (e : Passed) → IsNoted p os e → IsNoted p new e
 noted_more p os more new is e h = λ ended. subst (λ (xs : List Outcome). HasOutcome p xs e.items e.configuration) (sym is) (has_more p os more e.items e.configuration (h ended))
+
+-- where a label is possible is no end
+pub noted_moving : (p : ProgramTree) (os : List Outcome) (e : Passed) → CanMove p e.configuration → IsNoted p os e
+noted_moving p os e moves ended = absurd (let z : None ≡ Some moves.next = sym (ended moves.label) ∙ moves.step in cc)
 
 -- the run to an end shows its outcome
 pub shown_by : (p : ProgramTree) (o : Outcome) (c : Configuration) → IsReachedWith p with_writes o.items.items c → IsAtEnd p c → IsOfKind o.kind p c → IsShown p o

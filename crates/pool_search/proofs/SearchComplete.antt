@@ -1,5 +1,5 @@
 -- If a search has visited all its entries, its list is closed, and no run leads to what it did not find.
-use Rattle.std.proofs.Common.{◌≡◌, ◌≤◌, ◌+◌, inl, inr, sym, ap, ◌∙◌, subst, ℕ, suc, List, [], ◌∷◌, ◌++◌, length, map, take, Some, None, Bool, true, false, arith}
+use Rattle.std.proofs.Common.{◌≡◌, ◌≤◌, ◌+◌, inl, inr, sym, ap, ◌∙◌, subst, ℕ, suc, [], ◌∷◌, ◌++◌, length, map, take, Some, Bool, true, false, arith}
 use Rattle.std.specs.List.{slice_get}
 use Rattle.std.proofs.lemmas.List.{length-map, length-take-le, take_all, take-append-le}
 use Rattle.std.proofs.lemmas.Option.{slice_get_within, get_or_from_slice_get}
@@ -18,7 +18,7 @@ use Rattle.pool_search.specs.declared.queries.Query.{Query}
 use Rattle.pool_search.specs.Entries.{IsPassedOver}
 use Rattle.pool_search.specs.SearchAnswers.{IsPassedBy}
 use Rattle.pool_search.specs.SearchTargets.{wants_stuck, CountsAsStuck, IsStuckEnd, IsUnwanted, IsFinite}
-use Rattle.pool_search.specs.Progress.{Entries, Grows, IsReachedWith, IsSearchedTo}
+use Rattle.pool_search.specs.Progress.{Entries, Grows, IsSearchedTo}
 use Rattle.pool_search.proofs.ListGrowth.{in_grown, tried_grown, each_more, each_weaker, tried_more, each_at}
 
 -- the list before the place and the entry there

@@ -1,7 +1,7 @@
 -- What is noted of waiters stays true, and a waiter that the labels of its entries leave as it is, is dead.
 use Rattle.std.proofs.Common.{◌≡◌, ◌⊎◌, inl, inr, refl, sym, ap, ◌∙◌, subst, cond, ℕ, zero, suc, List, [], ◌∷◌, ◌++◌, map, Option, Some, None, Bool, true, false, not, ◌&&◌, ◌||◌, ◌==◌, ◌<◌, ◌≤◌, ◌+◌, length, set, get_or, drop, arith}
 use Rattle.std.specs.Prelude.{IfSome}
-use Rattle.std.specs.List.{filter, slice_get}
+use Rattle.std.specs.List.{filter, list_any, slice_get}
 use Rattle.std.proofs.lemmas.List.{drop_more}
 use Rattle.std.proofs.lemmas.Option.{slice_get_within}
 use Rattle.run_types.specs.declared.types.Item.{Item}
@@ -9,11 +9,13 @@ use Rattle.run_types.specs.declared.types.Label.{Label}
 use Rattle.run_types.specs.Tables.{Each}
 use Rattle.run_types.proofs.Laws.{equals, equal, first, second, neither, given_by, same_some}
 use Rattle.pool_syntax.specs.Terms.{ProgramTree}
-use Rattle.pool_relation.specs.Configuration.{Configuration}
+use Rattle.pool_relation.specs.Action.{Object, action}
+use Rattle.pool_relation.specs.Configuration.{Configuration, object_of}
 use Rattle.pool_relation.specs.Transition.{transition, run}
 use Rattle.pool_relation.proofs.Laws.{joined}
-use Rattle.reachability.specs.Search.{WaitsAt, IsIn, IsInOrder, after, names_next}
+use Rattle.reachability.specs.Search.{WaitsAt, is_in_call, IsIn, IsInOrder, after}
 use Rattle.reachability.specs.Labels.{IsAmong, labels_to_try}
+use Rattle.known_names.specs.Awaited.{is_calling}
 use Rattle.search_laws.specs.Renamed.{IsNameless}
 use Rattle.search_laws.specs.Outcomes.{Passed}
 use Rattle.search_laws.specs.Tried.{states_only, state_of}
@@ -27,8 +29,8 @@ use Rattle.pool_search.specs.Courses.{all_followed}
 use Rattle.pool_search.specs.Progress.{Entries, AllInOrder}
 use Rattle.pool_search.specs.VisitedConfigurations.{entry}
 use Rattle.pool_search.specs.Entries.{IsEntryAt}
-use Rattle.pool_search.specs.WaiterLists.{HasWaiter, IsOpen, noted, GoesOnBy, IsServed, IsKnown, AreKnown}
-use Rattle.pool_search.specs.Leads.{IsEdge, LeadsBeside, IsBeside, OneStaysOn, StaysIn, ByAll, ByThose, StaysAt}
+use Rattle.pool_search.specs.WaiterLists.{HasWaiter, IsOne, IsOpen, noted, GoesOnBy, IsServed, IsKnown, AreKnown}
+use Rattle.pool_search.specs.Leads.{HasMovedTo, IsEdge, LeadsBeside, IsBeside, OneStaysOn, StaysIn, ByAll, ByThose, StaysAt}
 use Rattle.pool_search.specs.Trials.{is_asked}
 use Rattle.pool_search.specs.declared.waiters.Waiter.{Waiter}
 use Rattle.pool_search.proofs.ListGrowth.{each_at, each_weaker}
@@ -105,12 +107,30 @@ known_at p es (w ∷ ws) at o e h (inl k) g =
     subst (IsServed p e.configuration) k.2 (h.0 k.0 e (ap (slice_get es) k.1 ∙ g))
 known_at p es (w ∷ ws) at o e h (inr k) g = known_at p es ws at o e h.1 k g
 
+-- a number that is found in a list
+pub one_found : (o : ℕ) (os : List ℕ) → list_any (λ q. q == o) os ≡ true → IsOne o os
+one_found o [] h = absurd (let z : false ≡ true = h in cc)
+one_found o (q ∷ qs) h = by (q == o) refl (one_found o qs) h
+  where
+    by : (b : Bool) → (q == o) ≡ b → (list_any (λ r. r == o) qs ≡ true → IsOne o qs) → (b || list_any (λ r. r == o) qs) ≡ true → IsOne o (q ∷ qs)
+    by true is rest i = inl (equal q o is)
+    by false is rest i = inr (rest i)
+
+-- what is so of each number of a list
+one_of : (P : ℕ → Type 0) (o : ℕ) (os : List ℕ) → Each P os → IsOne o os → P o
+one_of P o [] h i = absurd i
+one_of P o (q ∷ qs) h (inl is) = subst P is h.0
+one_of P o (q ∷ qs) h (inr i) = one_of P o qs h.1 i
+
 module _ (p : ProgramTree) (es : Entries) where
   -- a waiter that can go on by the labels of an edge may be noted
-  pub known_noted : (ws : List Waiter) (n : ℕ) (c : Configuration) (l : Label) (made : List Label) (index at to : ℕ) → AreKnown p es ws → IsEntryAt es at n c → IsEdge p es n c l made to
-      → (g : GoesOnBy index at to made ws) → AreKnown p es (set ws index (noted g.waiter))
-  known_noted ws n c l made index at to known there edge g = record { all = all; each = each_set (IsKnown p es) ws index (noted g.waiter) known.each here }
+  pub known_noted : (ws : List Waiter) (n : ℕ) (c : Configuration) (l : Label) (moved : List ℕ) (index at to : ℕ) → AreKnown p es ws → IsEntryAt es at n c → HasMovedTo p es n c l moved to
+      → (g : GoesOnBy index at to moved ws) → AreKnown p es (set ws index (noted g.waiter))
+  known_noted ws n c l moved index at to known there led g = record { all = all; each = each_set (IsKnown p es) ws index (noted g.waiter) known.each here }
     where
+      edge : IsEdge p es n c l led.made to
+      edge = led.edge
+
       o : ℕ
       o = g.waiter.object
 
@@ -127,15 +147,15 @@ module _ (p : ProgramTree) (es : Entries) where
               both (inr m) = inl m
           by (inr k) = has_set false i q ws index g.waiter g.there k
 
-      reason : (some_changes g.waiter.object made ≡ true) ⊎ HasWaiter true to g.waiter.object ws → (some_changes g.waiter.object made ≡ true) ⊎ IsServed p edge.last g.waiter.object
-      reason (inl h) = inl h
+      reason : IsOne g.waiter.object moved ⊎ HasWaiter true to g.waiter.object ws → (some_changes g.waiter.object led.made ≡ true) ⊎ IsServed p edge.last g.waiter.object
+      reason (inl h) = inl (one_of (λ (q : ℕ). some_changes q led.made ≡ true) g.waiter.object moved led.changed h)
       reason (inr h) = inr (known_at p es ws to g.waiter.object (entry (after n l) edge.items edge.last) known.each h edge.there)
 
       here : IsKnown p es (noted g.waiter)
       here on e h =
           let is : e ≡ entry n there.0 c = same_some (sym h ∙ ap (slice_get es) g.entry ∙ there.1) in
           subst (λ (d : Configuration). IsServed p d g.waiter.object) (ap (λ (x : Passed). x.configuration) (sym is))
-          (served_by p c edge.last made g.waiter.object edge.leads (reason g.by))
+          (served_by p c edge.last led.made g.waiter.object edge.leads (reason g.by))
 
   -- if all are noted, each object that waits can go on
   all_served : (ws : List Waiter) → AreKnown p es ws → Each (λ (w : Waiter). w.goes_on ≡ true) ws → (at o : ℕ) (e : Passed) → slice_get es at ≡ Some e → IsServed p e.configuration o
@@ -174,32 +194,43 @@ split (suc a) (suc b) = by (split a b)
     by (inl h) = inl (omega arith)
     by (inr h) = inr (omega arith)
 
--- one more object of an entry
-pub added_more : (p : ProgramTree) (c : Configuration) (ws : List Waiter) (at o from : ℕ) → ((q : ℕ) → q < from → WaitsAt p c q → HasWaiter false at q ws) → ((q : ℕ) → from ≤ q → WaitsAt p c q → o ≤ q)
-    → (q : ℕ) → q < o + 1 → WaitsAt p c q → HasWaiter false at q (ws ++ record { entry = at; object = o; goes_on = false } ∷ [])
-added_more p c ws at o from before least q below waits = by (split q from)
+-- an object that waits is in a call
+calls_where : (p : ProgramTree) (c : Configuration) (o : ℕ) (x : Object) → object_of c o ≡ Some x → WaitsAt p c o → is_calling p o (Some x) ≡ true
+calls_where p c o x there w =
+    let is : w.object ≡ x = same_some (sym w.there ∙ there) in
+    subst (λ (y : Object). is_calling p o (Some y) ≡ true) is (calls w.sound w.waits)
   where
-    by : (q < from) ⊎ (from ≤ q) → HasWaiter false at q (ws ++ record { entry = at; object = o; goes_on = false } ∷ [])
-    by (inl h) = has_more false at q ws (record { entry = at; object = o; goes_on = false } ∷ []) (before q h waits)
+    calls : w.object.fault ≡ None → is_in_call (action p o w.object) ≡ true → is_calling p o (Some w.object) ≡ true
+    calls h k = rw h k
+
+-- one more object of an entry
+pub added_more : (p : ProgramTree) (c : Configuration) (ws vs : List Waiter) (at i : ℕ) (x : Object) → object_of c i ≡ Some x → ((q : ℕ) → q < i → WaitsAt p c q → HasWaiter false at q ws)
+    → ((q : ℕ) → HasWaiter false at q ws → HasWaiter false at q vs) → (is_calling p i (Some x) ≡ true → HasWaiter false at i vs) → (q : ℕ) → q < i + 1 → WaitsAt p c q → HasWaiter false at q vs
+added_more p c ws vs at i x there before more here q below waits = by (split q i)
+  where
+    by : (q < i) ⊎ (i ≤ q) → HasWaiter false at q vs
+    by (inl h) = more q (before q h waits)
     by (inr h) =
-        let l : o ≤ q = least q h waits in
-        let is : o ≡ q = omega arith in
-        subst (λ (n : ℕ). HasWaiter false at n (ws ++ record { entry = at; object = o; goes_on = false } ∷ [])) is (has_last ws (record { entry = at; object = o; goes_on = false }))
+        let is : i ≡ q = omega arith in
+        let w : WaitsAt p c i = subst (WaitsAt p c) (sym is) waits in
+        subst (λ (n : ℕ). HasWaiter false at n vs) is (here (calls_where p c i x there w))
 
 -- one more entry
-pub filled_more : (p : ProgramTree) (es : Entries) (ws vs added : List Waiter) (at : ℕ) (c : Configuration)
+pub filled_more : (p : ProgramTree) (es : Entries) (ws vs added : List Waiter) (at : ℕ)
     → ((i : ℕ) (e : Passed) (o : ℕ) → i < at → slice_get es i ≡ Some e → WaitsAt p e.configuration o → HasWaiter false i o ws) → vs ≡ ws ++ added
-    → IfSome (slice_get es at) (λ (e : Passed). c ≡ e.configuration) → ((o : ℕ) → WaitsAt p c o → HasWaiter false at o vs) → (i : ℕ) (e : Passed) (o : ℕ) → i < at + 1 → slice_get es i ≡ Some e
+    → IfSome (slice_get es at) (λ (e : Passed). (o : ℕ) → WaitsAt p e.configuration o → HasWaiter false at o vs) → (i : ℕ) (e : Passed) (o : ℕ) → i < at + 1 → slice_get es i ≡ Some e
     → WaitsAt p e.configuration o → HasWaiter false i o vs
-filled_more p es ws vs added at c before grown same here i e o below g waits = by (split i at)
+filled_more p es ws vs added at before grown here i e o below g waits = by (split i at)
   where
     by : (i < at) ⊎ (at ≤ i) → HasWaiter false i o vs
     by (inl h) = subst (HasWaiter false i o) (sym grown) (has_more false i o ws added (before i e o h g waits))
     by (inr h) =
         let is : at ≡ i = omega arith in
         let there : slice_get es at ≡ Some e = ap (slice_get es) is ∙ g in
-        let equal : c ≡ e.configuration = subst (λ (r : Option Passed). IfSome r (λ (f : Passed). c ≡ f.configuration)) there same in
-        subst (λ (n : ℕ). HasWaiter false n o vs) is (here o (subst (λ (d : Configuration). WaitsAt p d o) (sym equal) waits))
+        let all : (q : ℕ) → WaitsAt p e.configuration q → HasWaiter false at q vs =
+        subst (λ (r : Option Passed). IfSome r (λ (f : Passed). (q : ℕ) → WaitsAt p f.configuration q → HasWaiter false at q vs)) there here
+        in
+        subst (λ (n : ℕ). HasWaiter false n o vs) is (all o waits)
 
 pub known_filled : (p : ProgramTree) (es : Entries) (ws : List Waiter) (at : ℕ) → Each IsOpen ws → length es ≤ at
     → ((i : ℕ) (e : Passed) (o : ℕ) → i < at → slice_get es i ≡ Some e → WaitsAt p e.configuration o → HasWaiter false i o ws) → AreKnown p es ws

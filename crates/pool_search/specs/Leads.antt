@@ -13,6 +13,7 @@ use Rattle.search_laws.specs.Outcomes.{Passed}
 use Rattle.search_laws.specs.Stubborn.{IsAwaited, is_served}
 use Rattle.search_laws.specs.Tried.{states_only}
 use Rattle.search_laws.specs.Dead.{some_changes}
+use Rattle.object_moves.specs.Followed.{AreChanged}
 use Rattle.pool_search.specs.Courses.{all_followed}
 use Rattle.pool_search.specs.Progress.{Entries}
 use Rattle.pool_search.specs.Trials.{is_asked}
@@ -29,6 +30,12 @@ pub record IsEdge (p : ProgramTree) (es : Entries) (n : ℕ) (c : Configuration)
   pub leads : run p c made ≡ Some last
   pub items : List Item
   pub there : slice_get es to ≡ Some (entry (after n l) items last)
+
+-- from c, with the next name n, the label l leads to the entry `to`, and these objects are changed on the way
+pub record HasMovedTo (p : ProgramTree) (es : Entries) (n : ℕ) (c : Configuration) (l : Label) (moved : List ℕ) (to : ℕ) : Type 0 where
+  pub made : List Label
+  pub edge : IsEdge p es n c l made to
+  pub changed : AreChanged made moved
 
 module _ (p : ProgramTree) (es : Entries) (ws : List Waiter) (o : ℕ) where
   -- the label leads to an entry in which the object waits and is not known to go on, and nothing on the way changes it

@@ -1,9 +1,8 @@
 -- The outcomes of a program: how its runs end, and what they wrote until then.
-use Rattle.std.specs.Prelude.{◌≡◌, ◌⊎◌, ℕ, List, [], ◌∷◌, map, true}
+use Rattle.std.specs.Prelude.{◌≡◌, ◌⊎◌, List, [], ◌∷◌, map, true}
 use Rattle.run_types.specs.declared.types.Item.{Item}
 use Rattle.run_types.specs.declared.types.Label.{Label}
 use Rattle.pool_syntax.specs.Terms.{ProgramTree}
-use Rattle.run_types.specs.Tables.{Each}
 use Rattle.pool_relation.specs.Configuration.{Configuration}
 use Rattle.reachability.specs.Search.{IsAtEnd, IsStuck, IsUnfinished, IsFaulty}
 use Rattle.reachability.specs.Renaming.{Renaming, renamed_item}

@@ -1,12 +1,11 @@
 -- Lists of waiters: objects that wait in calls in the entries of a search, and what is known of them.
 use Rattle.std.specs.Prelude.{◌≡◌, ◌⊎◌, ℕ, List, [], ◌∷◌, Some, Bool, true, false, slice_get}
-use Rattle.run_types.specs.declared.types.Label.{Label}
 use Rattle.run_types.specs.Tables.{Each}
 use Rattle.pool_syntax.specs.Terms.{ProgramTree}
 use Rattle.pool_relation.specs.Configuration.{Configuration}
 use Rattle.reachability.specs.Search.{WaitsAt}
 use Rattle.search_laws.specs.Outcomes.{Passed}
-use Rattle.search_laws.specs.Dead.{some_changes, CanGoOn}
+use Rattle.search_laws.specs.Dead.{CanGoOn}
 use Rattle.pool_search.specs.Progress.{Entries}
 use Rattle.pool_search.specs.declared.waiters.Waiter.{Waiter}
 
@@ -23,12 +22,17 @@ IsOpen w = w.goes_on ≡ false
 abbrev pub noted : Waiter → Waiter
 noted w = record { entry = w.entry; object = w.object; goes_on = true }
 
--- the waiter at this index is one of the entry `at`, and one of the labels changes it, or it can go on in the entry `to`
-pub record GoesOnBy (index at to : ℕ) (ls : List Label) (ws : List Waiter) : Type 0 where
+-- the number is in the list
+abbrev pub IsOne : ℕ → List ℕ → Type 0
+IsOne o [] = ⊥
+IsOne o (q ∷ qs) = (q ≡ o) ⊎ IsOne o qs
+
+-- the waiter at this index is one of the entry `at`, and is one of the objects, or can go on in the entry `to`
+pub record GoesOnBy (index at to : ℕ) (moved : List ℕ) (ws : List Waiter) : Type 0 where
   pub waiter : Waiter
   pub there : slice_get ws index ≡ Some waiter
   pub entry : waiter.entry ≡ at
-  pub by : (some_changes waiter.object ls ≡ true) ⊎ HasWaiter true to waiter.object ws
+  pub by : IsOne waiter.object moved ⊎ HasWaiter true to waiter.object ws
 
 -- if the object waits in the configuration, some run goes on with it
 abbrev pub IsServed : ProgramTree → Configuration → ℕ → Type 0

@@ -1,11 +1,14 @@
 //! What labels change, and which names they give to new objects.
-ghost use Rattle.std.specs.Prelude.{◌≡◌, IfSome, true};
+ghost use Rattle.std.specs.Prelude.{◌≡◌, IfSome, OnOk, true};
+ghost use Rattle.object_moves.specs.Followed.{AreChanged};
 ghost use Rattle.reachability.specs.Search.{in_order, names_next};
 ghost use Rattle.search_laws.specs.Dead.{changes, some_changes};
 ghost use Rattle.search_laws.specs.ClosedBeside.{after_all};
 
 use crate::explored::name_after;
+use object_moves::push_movers;
 use run_types::Label;
+use std::alloc::AllocError;
 
 /// Whether a transition with this label changes the object.
 pub fn changes(object: u32, label: &Label) -> bool
@@ -42,6 +45,17 @@ pub fn some_changes(object: u32, labels: &[Label]) -> bool
         }
     }
     false
+}
+
+/// Makes `moved` the objects that transitions with these labels change. An error means out of memory.
+pub fn changed_by(labels: &[Label], moved: &mut Vec<u32>) -> Result<(), AllocError>
+    ensures { OnOk result (AreChanged labels.now moved.new.items) }
+{
+    moved.clear();
+    for label in labels {
+        push_movers(moved, label)?;
+    }
+    Ok(())
 }
 
 /// Whether the label gives a new object this name, or makes no object.

@@ -1,15 +1,9 @@
 //! The labels of an entry that are tried: all, or those of one object where they are enough.
-ghost use Rattle.std.specs.Prelude.{◌≡◌, ◌<◌, ◌⊎◌, ℕ, Some, true, not};
-ghost use Rattle.run_types.specs.declared.types.Label.{Label as OneLabel};
-ghost use Rattle.pool_relation.specs.Configuration.{Configuration};
-ghost use Rattle.pool_relation.specs.Transition.{transition};
-ghost use Rattle.pool_semantics.specs.PlainOf.{configuration_of, program_tree};
-ghost use Rattle.reachability.specs.Search.{IsInOrder};
-ghost use Rattle.search_laws.specs.Stubborn.{IsAwaited, is_served};
+ghost use Rattle.std.specs.Prelude.{◌≡◌, ◌<◌, ◌⊎◌, ℕ, suc, slice_get, true, not};
+ghost use Rattle.search_laws.specs.Stubborn.{is_served};
 ghost use Rattle.pool_search.specs.Trials.{is_asked, is_tried};
 
-use known_names::is_only_awaited;
-use pool_semantics::Plain;
+use object_moves::same_values;
 use run_types::Label;
 
 /// The result of a trial of labels.
@@ -54,7 +48,7 @@ pub fn is_asked(served: Option<u32>, label: &Label) -> bool
 }
 
 /// Whether the object serves one of the labels.
-fn serves_some(object: u32, labels: &[Label]) -> bool {
+pub fn serves_some(object: u32, labels: &[Label]) -> bool {
     for label in labels {
         if is_served(object, label) {
             return true;
@@ -63,16 +57,48 @@ fn serves_some(object: u32, labels: &[Label]) -> bool {
     false
 }
 
-/// Whether the labels that the object serves are enough, if one of them is possible. `labels` are those to try.
-pub fn may_choose(plain: &Plain<'_>, next: u32, object: u32, labels: &[Label]) -> bool
-    ensures { result ≡ true → IsInOrder (configuration_of plain.now)
-        → (l : OneLabel) (d : Configuration) → is_served object l ≡ true → transition (program_tree plain.now) (configuration_of plain.now) l ≡ Some d
-        → IsAwaited (program_tree plain.now) next object (configuration_of plain.now) }
+/// Whether both labels take an equal message of one sender.
+fn is_same_take(left: &Label, right: &Label) -> bool
+    ensures { result ≡ true → left.now ≡ right.now }
 {
-    if !serves_some(object, labels) {
-        return false;
+    match left {
+        Label::Take {
+            receiver,
+            sender,
+            method,
+            args,
+        } => match right {
+            Label::Take {
+                receiver: other_receiver,
+                sender: other_sender,
+                method: other_method,
+                args: other_args,
+            } => {
+                *receiver == *other_receiver
+                    && *sender == *other_sender
+                    && method.0 == other_method.0
+                    && same_values(args.values(), other_args.values())
+            }
+            _ => false,
+        },
+        _ => false,
     }
-    is_only_awaited(plain.state(), next, object)
+}
+
+/// Whether the label at this place takes a message that is equal to the one that the label before it takes.
+pub fn is_again(labels: &[Label], place: usize) -> bool
+    ensures { result ≡ true → (i : ℕ) × (suc i ≡ place) × (slice_get labels.now i ≡ slice_get labels.now place) }
+{
+    let Some(before) = place.checked_sub(1) else {
+        return false;
+    };
+    let Some(one) = labels.get(before) else {
+        return false;
+    };
+    let Some(other) = labels.get(place) else {
+        return false;
+    };
+    is_same_take(one, other)
 }
 
 /// The result of a trial after one more label, which leads from entry `at` to entry `to`. Only later entries count.

@@ -16,7 +16,7 @@ ghost use Rattle.pool_search.specs.Progress.{AllInOrder};
 ghost use Rattle.pool_search.specs.Trials.{is_asked, is_tried};
 
 use crate::changes::some_changes;
-use crate::choices::{Trial, is_asked, later, may_choose};
+use crate::choices::{Trial, is_asked, later, serves_some};
 use crate::explored::Explored;
 use crate::going_on::Lead;
 use crate::waiters::{Waiter, Waiters};
@@ -171,7 +171,10 @@ impl<'a> Explored<'a> {
         ensures fresh { OnOk result (is_spent plain.new ≡ false) }
         ensures stays { result ≡ Ok true → (e : Passed) → slice_get (entries self.old) at ≡ Some e → StaysIn (searched self.old) (entries self.old) waiters.now.list.items object at e }
     {
-        if !may_choose(plain, next, served, labels) {
+        if !serves_some(served, labels) {
+            return Ok(false);
+        }
+        if !self.kept.is_only_awaited(at as usize, served) {
             return Ok(false);
         }
         match self.are_beside(

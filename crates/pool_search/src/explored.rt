@@ -1,6 +1,5 @@
 //! The visited set of a search, and the expansion of its entries.
 ghost use Rattle.std.specs.Prelude.{◌≡◌, ◌⊎◌, ◌+◌, ◌++◌, ◌∷◌, ◌<◌, ◌≤◌, ℕ, Ok, Some, None, IfOk, IfSome, get_or, length, slice_get, min, [], true, false};
-ghost use Rattle.pool_relation.specs.Configuration.{Configuration};
 ghost use Rattle.pool_relation.specs.Transition.{transition};
 ghost use Rattle.pool_semantics.specs.PlainOf.{configuration_of, program_tree, is_spent};
 ghost use Rattle.std.specs.List.{filter};
@@ -9,13 +8,14 @@ ghost use Rattle.reachability.specs.Labels.{labels_to_try};
 ghost use Rattle.search_laws.specs.Outcomes.{Passed};
 ghost use Rattle.search_laws.specs.Tried.{AllLeadInto, IsExpanded, IsLabelTried, LeadsAt, states_only};
 ghost use Rattle.pool_search.specs.Courses.{course_of};
-ghost use Rattle.pool_search.specs.Entries.{IsEntryAt, IsPassedOver, entries, lists, searched};
-ghost use Rattle.pool_search.specs.Trials.{is_asked, is_tried, OneLeadsOn, SettlesAt};
+ghost use Rattle.pool_search.specs.Entries.{IsPassedOver, entries, lists, searched};
+ghost use Rattle.pool_search.specs.Trials.{CanMove, is_asked, is_tried, OneLeadsOn, SettlesAt};
 ghost use Rattle.pool_search.specs.VisitedConfigurations.{entry};
 ghost use Rattle.pool_search.specs.Progress.{AllInOrder, AllReached, Grows, IsReachedWith, IsSearchedTo, HasSearched};
 
-use crate::choices::{Trial, is_asked, later, may_choose};
+use crate::choices::{Trial, is_again, is_asked, later, serves_some};
 use crate::classifier::{Classification, judge};
+use crate::hints::{Hints, has_bit};
 use crate::queries::Query;
 use crate::scope::{Keeps, Scope};
 use crate::settling::settle;
@@ -179,12 +179,11 @@ impl<'a> Explored<'a> {
     /// error means out of memory.
     fn follow_known(
         &mut self,
-        next: u32,
         label: &Label,
         origin: Origin,
         scope: Scope,
     ) -> Result<Option<Trial>, AllocError>
-        requires there { (c : Configuration) × IsEntryAt (entries self.old) origin.from next c }
+        requires exists { origin.from < length (entries self.old) }
         requires reached { AllReached (searched self.old) (course_of scope.keeps) (entries self.old) }
         ensures program { searched self.new ≡ searched self.old }
         ensures same { result ≡ Ok None → entries self.new ≡ entries self.old }
@@ -193,16 +192,21 @@ impl<'a> Explored<'a> {
         ensures led { (i : ℕ) → result ≡ Ok (Some (Trial.Led i)) → (e : Passed) → slice_get (entries self.old) origin.from ≡ Some e
             → LeadsAt (searched self.old) (course_of scope.keeps) (entries self.new) e.next e.items e.configuration label.now i }
     {
-        let Some(after) = name_after(next, label) else {
+        let from = origin.from as usize;
+        let Some(after) = name_after(self.kept.next_name(from), label) else {
             return Ok(None);
         };
-        let before = self.kept.written(origin.from as usize);
+        let before = self.kept.written(from);
         let Some(written) = self.written_after(scope.keeps, before, label)? else {
             return Ok(None);
         };
-        let from = origin.from as usize;
-        match self.kept.lead(from, label, after, written, scope.keeps) {
+        let mut moved = Vec::new(self.kept.alloc());
+        match self
+            .kept
+            .lead(from, label, after, written, scope.keeps, true, &mut moved)
+        {
             Ok(Found::Unknown) => Ok(None),
+            Ok(Found::Absent) => Ok(None),
             Ok(Found::Impossible) => Ok(Some(Trial::Tried)),
             Ok(Found::At(Entry::Seen(number))) => Ok(Some(Trial::Led(number))),
             Ok(Found::At(Entry::Added(number))) => {
@@ -216,93 +220,69 @@ impl<'a> Explored<'a> {
         }
     }
 
-    /// Tries a label of the entry `origin.from`, where the stepper is, by the stepper, and returns the stepper there. An
-    /// error means out of memory.
+    /// Tries a label of the entry `origin.from` by the stepper. An error means out of memory.
     fn follow_whole(
         &mut self,
-        plain: &mut Plain<'a>,
-        next: u32,
         label: &Label,
         origin: Origin,
         scope: Scope,
     ) -> Result<Trial, AllocError>
-        requires fresh { is_spent plain.old ≡ false }
-        requires program { program_tree plain.old ≡ searched self.old }
-        requires there { IsEntryAt (entries self.old) origin.from next (configuration_of plain.old) }
+        requires exists { origin.from < length (entries self.old) }
         requires reached { AllReached (searched self.old) (course_of scope.keeps) (entries self.old) }
         ensures program { searched self.new ≡ searched self.old }
         ensures grows { IfOk result (λ t. is_tried t ≡ true → Grows (searched self.old) (course_of scope.keeps) scope.most (entries self.old) (entries self.new)) }
-        ensures impossible { result ≡ Ok Trial.Tried → transition (searched self.old) (configuration_of plain.old) label.now ≡ None }
+        ensures impossible { result ≡ Ok Trial.Tried → (e : Passed) → slice_get (entries self.old) origin.from ≡ Some e → transition (searched self.old) e.configuration label.now ≡ None }
         ensures led { (i : ℕ) → result ≡ Ok (Trial.Led i) → (e : Passed) → slice_get (entries self.old) origin.from ≡ Some e
             → LeadsAt (searched self.old) (course_of scope.keeps) (entries self.new) e.next e.items e.configuration label.now i }
-        ensures again { IfOk result (λ t. is_tried t ≡ true → configuration_of plain.new ≡ configuration_of plain.old) }
-        ensures same_program { IfOk result (λ t. is_tried t ≡ true → program_tree plain.new ≡ program_tree plain.old) }
-        ensures fresh { IfOk result (λ t. is_tried t ≡ true → is_spent plain.new ≡ false) }
     {
+        let from = origin.from as usize;
+        let mut plain = self.kept.configuration(from)?;
         match plain.apply(label) {
             Ok(()) => {}
             Err(Refuse::NotPossible { .. }) => return Ok(Trial::Tried),
             Err(Refuse::Memory) => return Err(AllocError),
         }
-        let Some(after) = name_after(next, label) else {
+        let Some(after) = name_after(self.kept.next_name(from), label) else {
             return Ok(Trial::Over);
         };
-        let before = self.kept.written(origin.from as usize);
+        let before = self.kept.written(from);
         let Some(written) = self.written_after(scope.keeps, before, label)? else {
             return Ok(Trial::Over);
         };
-        let Some(place) = self.settle_and_keep(plain, after, written, origin, scope)? else {
-            return Ok(Trial::Over);
-        };
-        *plain = self.kept.configuration(origin.from as usize)?;
-        Ok(Trial::Led(place))
+        match self.settle_and_keep(&mut plain, after, written, origin, scope)? {
+            Some(place) => Ok(Trial::Led(place)),
+            None => Ok(Trial::Over),
+        }
     }
 
-    /// Tries a label of the entry `origin.from`, where the stepper is, and returns the stepper there. An error means out
-    /// of memory.
-    fn follow(
-        &mut self,
-        plain: &mut Plain<'a>,
-        next: u32,
-        label: &Label,
-        origin: Origin,
-        scope: Scope,
-    ) -> Result<Trial, AllocError>
-        requires fresh { is_spent plain.old ≡ false }
-        requires program { program_tree plain.old ≡ searched self.old }
-        requires there { IsEntryAt (entries self.old) origin.from next (configuration_of plain.old) }
+    /// Tries a label of the entry `origin.from`. An error means out of memory.
+    fn follow(&mut self, label: &Label, origin: Origin, scope: Scope) -> Result<Trial, AllocError>
+        requires exists { origin.from < length (entries self.old) }
         requires reached { AllReached (searched self.old) (course_of scope.keeps) (entries self.old) }
         ensures program { searched self.new ≡ searched self.old }
         ensures grows { IfOk result (λ t. is_tried t ≡ true → Grows (searched self.old) (course_of scope.keeps) scope.most (entries self.old) (entries self.new)) }
-        ensures impossible { result ≡ Ok Trial.Tried → transition (searched self.old) (configuration_of plain.old) label.now ≡ None }
+        ensures impossible { result ≡ Ok Trial.Tried → (e : Passed) → slice_get (entries self.old) origin.from ≡ Some e → transition (searched self.old) e.configuration label.now ≡ None }
         ensures led { (i : ℕ) → result ≡ Ok (Trial.Led i) → (e : Passed) → slice_get (entries self.old) origin.from ≡ Some e
             → LeadsAt (searched self.old) (course_of scope.keeps) (entries self.new) e.next e.items e.configuration label.now i }
-        ensures again { IfOk result (λ t. is_tried t ≡ true → configuration_of plain.new ≡ configuration_of plain.old) }
-        ensures same_program { IfOk result (λ t. is_tried t ≡ true → program_tree plain.new ≡ program_tree plain.old) }
-        ensures fresh { IfOk result (λ t. is_tried t ≡ true → is_spent plain.new ≡ false) }
     {
-        match self.follow_known(next, label, origin, scope) {
+        match self.follow_known(label, origin, scope) {
             Ok(Some(trial)) => Ok(trial),
-            Ok(None) => self.follow_whole(plain, next, label, origin, scope),
+            Ok(None) => self.follow_whole(label, origin, scope),
             Err(_) => Err(AllocError),
         }
     }
 
-    /// Tries one more label of the entry `origin.from`, where the stepper is, if it is asked for. `trial` is the result of
-    /// those before it, and the new result counts it too. An error means out of memory.
+    /// Tries one more label of the entry `origin.from`, if it is asked for. `trial` is the result of those before it, and
+    /// the new result counts it too. An error means out of memory.
     fn try_label(
         &mut self,
-        plain: &mut Plain<'a>,
-        next: u32,
         label: &Label,
         origin: Origin,
         served: Option<u32>,
         trial: Trial,
         scope: Scope,
     ) -> Result<Trial, AllocError>
-        requires fresh { is_spent plain.old ≡ false }
-        requires program { program_tree plain.old ≡ searched self.old }
-        requires there { IsEntryAt (entries self.old) origin.from next (configuration_of plain.old) }
+        requires exists { origin.from < length (entries self.old) }
         requires reached { AllReached (searched self.old) (course_of scope.keeps) (entries self.old) }
         ensures program { searched self.new ≡ searched self.old }
         ensures grows { IfOk result (λ t. is_tried t ≡ true → Grows (searched self.old) (course_of scope.keeps) scope.most (entries self.old) (entries self.new)) }
@@ -310,14 +290,11 @@ impl<'a> Explored<'a> {
             → IsLabelTried (searched self.old) (course_of scope.keeps) (entries self.new) e.next e.items e.configuration label.now) }
         ensures led { (i : ℕ) → result ≡ Ok (Trial.Led i) → (trial ≡ Trial.Led i) ⊎ ((e : Passed) → slice_get (entries self.old) origin.from ≡ Some e
             → OneLeadsOn (searched self.old) (course_of scope.keeps) (entries self.new) origin.from e served i) }
-        ensures again { IfOk result (λ t. is_tried t ≡ true → configuration_of plain.new ≡ configuration_of plain.old) }
-        ensures same_program { IfOk result (λ t. is_tried t ≡ true → program_tree plain.new ≡ program_tree plain.old) }
-        ensures fresh { IfOk result (λ t. is_tried t ≡ true → is_spent plain.new ≡ false) }
     {
         if !is_asked(served, label) {
             return Ok(trial);
         }
-        match self.follow(plain, next, label, origin, scope) {
+        match self.follow(label, origin, scope) {
             Ok(Trial::Tried) => Ok(trial),
             Ok(Trial::Led(to)) => Ok(later(trial, origin.from, to)),
             Ok(Trial::Over) => Ok(Trial::Over),
@@ -325,20 +302,16 @@ impl<'a> Explored<'a> {
         }
     }
 
-    /// Tries these labels of entry `at`, where the stepper is, or only those that the object `served` serves. `Led` if one
-    /// of them leads to a later entry. An error means out of memory.
+    /// Tries these labels of entry `at`, or only those that the object `served` serves. Of takes of equal messages that stand
+    /// side by side it tries one. `Led` if one of them leads to a later entry. An error means out of memory.
     fn try_labels(
         &mut self,
-        plain: &mut Plain<'a>,
         at: u32,
-        next: u32,
         labels: &[Label],
         served: Option<u32>,
         scope: Scope,
     ) -> Result<Trial, AllocError>
-        requires fresh { is_spent plain.old ≡ false }
-        requires program { program_tree plain.old ≡ searched self.old }
-        requires there { IsEntryAt (entries self.old) at next (configuration_of plain.old) }
+        requires exists { at < length (entries self.old) }
         requires reached { AllReached (searched self.old) (course_of scope.keeps) (entries self.old) }
         ensures program { searched self.new ≡ searched self.old }
         ensures grows { IfOk result (λ t. is_tried t ≡ true → Grows (searched self.old) (course_of scope.keeps) scope.most (entries self.old) (entries self.new)) }
@@ -346,17 +319,17 @@ impl<'a> Explored<'a> {
             → AllLeadInto (searched self.old) (course_of scope.keeps) (entries self.new) e.next e.items e.configuration (filter (is_asked served) labels.now)) }
         ensures led { (i : ℕ) → result ≡ Ok (Trial.Led i) → (e : Passed) → slice_get (entries self.old) at ≡ Some e
             → OneLeadsOn (searched self.old) (course_of scope.keeps) (entries self.new) at e served i }
-        ensures again { IfOk result (λ t. is_tried t ≡ true → configuration_of plain.new ≡ configuration_of plain.old) }
-        ensures same_program { IfOk result (λ t. is_tried t ≡ true → program_tree plain.new ≡ program_tree plain.old) }
-        ensures fresh { IfOk result (λ t. is_tried t ≡ true → is_spent plain.new ≡ false) }
     {
         let mut trial = Trial::Tried;
         for (place, label) in labels.iter().enumerate() {
+            if is_again(labels, place) {
+                continue;
+            }
             let origin = Origin {
                 from: at,
                 label: number(place),
             };
-            match self.try_label(plain, next, label, origin, served, trial, scope) {
+            match self.try_label(label, origin, served, trial, scope) {
                 Ok(made) => trial = made,
                 Err(_) => return Err(AllocError),
             }
@@ -367,62 +340,57 @@ impl<'a> Explored<'a> {
         Ok(trial)
     }
 
-    /// Tries the labels of entry `at`, where the stepper is, that the object serves, if they are enough. `Led` if they were
-    /// tried, and one of them leads to a later entry. An error means out of memory.
+    /// Tries the labels of entry `at` that the object serves, if they are enough. `labels` are all to try. `Led` if they
+    /// were tried, and one of them leads to a later entry. An error means out of memory.
     fn try_object(
         &mut self,
-        plain: &mut Plain<'a>,
         at: u32,
-        next: u32,
         labels: &[Label],
         object: u32,
         scope: Scope,
     ) -> Result<Trial, AllocError>
-        requires fresh { is_spent plain.old ≡ false }
-        requires program { program_tree plain.old ≡ searched self.old }
-        requires there { IsEntryAt (entries self.old) at next (configuration_of plain.old) }
+        requires exists { at < length (entries self.old) }
         requires in_order { AllInOrder (entries self.old) }
         requires reached { AllReached (searched self.old) (course_of scope.keeps) (entries self.old) }
-        requires labels { labels.now ≡ labels_to_try (searched self.old) next (configuration_of plain.old) }
+        requires labels { (e : Passed) → slice_get (entries self.old) at ≡ Some e → labels.now ≡ labels_to_try (searched self.old) e.next e.configuration }
         ensures program { searched self.new ≡ searched self.old }
         ensures grows { IfOk result (λ t. is_tried t ≡ true → Grows (searched self.old) (course_of scope.keeps) scope.most (entries self.old) (entries self.new)) }
         ensures expanded { (i : ℕ) → result ≡ Ok (Trial.Led i) → (e : Passed) → slice_get (entries self.old) at ≡ Some e
-            → IsExpanded (searched self.old) (course_of scope.keeps) (entries self.new) at e.next e.items e.configuration }
-        ensures again { IfOk result (λ t. is_tried t ≡ true → configuration_of plain.new ≡ configuration_of plain.old) }
-        ensures same_program { IfOk result (λ t. is_tried t ≡ true → program_tree plain.new ≡ program_tree plain.old) }
-        ensures fresh { IfOk result (λ t. is_tried t ≡ true → is_spent plain.new ≡ false) }
+            → IsExpanded (searched self.old) (course_of scope.keeps) (entries self.new) at e.next e.items e.configuration × CanMove (searched self.old) e.configuration }
     {
-        if !may_choose(plain, next, object, labels) {
+        if !serves_some(object, labels) {
             return Ok(Trial::Tried);
         }
-        self.try_labels(plain, at, next, labels, Some(object), scope)
+        if !self.kept.is_only_awaited(at as usize, object) {
+            return Ok(Trial::Tried);
+        }
+        self.try_labels(at, labels, Some(object), scope)
     }
 
-    /// Looks for an object whose labels are enough, and tries them. `Led` if there is one. An error means out of memory.
+    /// Looks for an object whose labels are enough, and tries them. It passes over the objects of which `known` has the bit.
+    /// `labels` are all to try. `Led` if there is one. An error
+    /// means out of memory.
     fn try_awaited(
         &mut self,
-        plain: &mut Plain<'a>,
         at: u32,
-        next: u32,
         labels: &[Label],
+        known: u64,
         scope: Scope,
     ) -> Result<Trial, AllocError>
-        requires fresh { is_spent plain.old ≡ false }
-        requires program { program_tree plain.old ≡ searched self.old }
-        requires there { IsEntryAt (entries self.old) at next (configuration_of plain.old) }
+        requires exists { at < length (entries self.old) }
         requires in_order { AllInOrder (entries self.old) }
         requires reached { AllReached (searched self.old) (course_of scope.keeps) (entries self.old) }
-        requires labels { labels.now ≡ labels_to_try (searched self.old) next (configuration_of plain.old) }
+        requires labels { (e : Passed) → slice_get (entries self.old) at ≡ Some e → labels.now ≡ labels_to_try (searched self.old) e.next e.configuration }
         ensures program { searched self.new ≡ searched self.old }
         ensures grows { IfOk result (λ t. is_tried t ≡ true → Grows (searched self.old) (course_of scope.keeps) scope.most (entries self.old) (entries self.new)) }
         ensures expanded { (i : ℕ) → result ≡ Ok (Trial.Led i) → (e : Passed) → slice_get (entries self.old) at ≡ Some e
-            → IsExpanded (searched self.old) (course_of scope.keeps) (entries self.new) at e.next e.items e.configuration }
-        ensures again { IfOk result (λ t. is_tried t ≡ true → configuration_of plain.new ≡ configuration_of plain.old) }
-        ensures same_program { IfOk result (λ t. is_tried t ≡ true → program_tree plain.new ≡ program_tree plain.old) }
-        ensures fresh { IfOk result (λ t. is_tried t ≡ true → is_spent plain.new ≡ false) }
+            → IsExpanded (searched self.old) (course_of scope.keeps) (entries self.new) at e.next e.items e.configuration × CanMove (searched self.old) e.configuration }
     {
-        for object in 0..next {
-            match self.try_object(plain, at, next, labels, object, scope) {
+        for object in 0..self.kept.next_name(at as usize) {
+            if has_bit(known, object) {
+                continue;
+            }
+            match self.try_object(at, labels, object, scope) {
                 Ok(Trial::Tried) => {}
                 Ok(Trial::Led(to)) => return Ok(Trial::Led(to)),
                 Ok(Trial::Over) => return Ok(Trial::Over),
@@ -432,64 +400,78 @@ impl<'a> Explored<'a> {
         Ok(Trial::Tried)
     }
 
-    /// Tries these labels of entry `at`, where the stepper is, or those of one object where that is enough. They are the
-    /// labels to try. `false` if a bound is met. An error means out of memory.
+    /// Tries these labels of entry `at`, or those of one object where that is enough. They are all to try. `Led` if one of
+    /// them leads to a later entry. An error means out of memory.
     fn try_enough(
         &mut self,
-        plain: &mut Plain<'a>,
         at: u32,
-        next: u32,
         labels: &[Label],
+        known: u64,
         scope: Scope,
-    ) -> Result<bool, AllocError>
-        requires fresh { is_spent plain.old ≡ false }
-        requires program { program_tree plain.old ≡ searched self.old }
-        requires there { IsEntryAt (entries self.old) at next (configuration_of plain.old) }
+    ) -> Result<Trial, AllocError>
+        requires exists { at < length (entries self.old) }
         requires in_order { AllInOrder (entries self.old) }
         requires reached { AllReached (searched self.old) (course_of scope.keeps) (entries self.old) }
-        requires labels { labels.now ≡ labels_to_try (searched self.old) next (configuration_of plain.old) }
+        requires labels { (e : Passed) → slice_get (entries self.old) at ≡ Some e → labels.now ≡ labels_to_try (searched self.old) e.next e.configuration }
         ensures program { searched self.new ≡ searched self.old }
-        ensures grows { IfOk result (λ b. b ≡ true → Grows (searched self.old) (course_of scope.keeps) scope.most (entries self.old) (entries self.new)) }
-        ensures expanded { IfOk result (λ b. b ≡ true → (e : Passed) → slice_get (entries self.old) at ≡ Some e
+        ensures grows { IfOk result (λ t. is_tried t ≡ true → Grows (searched self.old) (course_of scope.keeps) scope.most (entries self.old) (entries self.new)) }
+        ensures expanded { IfOk result (λ t. is_tried t ≡ true → (e : Passed) → slice_get (entries self.old) at ≡ Some e
             → IsExpanded (searched self.old) (course_of scope.keeps) (entries self.new) at e.next e.items e.configuration) }
+        ensures led { (i : ℕ) → result ≡ Ok (Trial.Led i) → (e : Passed) → slice_get (entries self.old) at ≡ Some e → CanMove (searched self.old) e.configuration }
     {
-        match self.try_awaited(plain, at, next, labels, scope) {
-            Ok(Trial::Tried) => {}
-            Ok(Trial::Led(_)) => return Ok(true),
-            Ok(Trial::Over) => return Ok(false),
-            Err(_) => return Err(AllocError),
+        match self.try_awaited(at, labels, known, scope) {
+            Ok(Trial::Tried) => self.try_labels(at, labels, None, scope),
+            Ok(Trial::Led(to)) => Ok(Trial::Led(to)),
+            Ok(Trial::Over) => Ok(Trial::Over),
+            Err(_) => Err(AllocError),
         }
-        let trial = self.try_labels(plain, at, next, labels, None, scope)?;
-        Ok(!trial.is_over())
     }
 
-    /// Tries the labels of entry `at`, where the stepper is: all, or those of one object where that is enough. `false` if a
-    /// bound is met. An error means out of memory.
+    /// Tries the labels of entry `at`: all, or those of one object where that is enough. `Led` if one of them leads to a
+    /// later entry. An error means out of memory.
     pub fn expand(
         &mut self,
         alloc: Global,
-        plain: &mut Plain<'a>,
+        hints: &mut Hints,
         at: u32,
-        next: u32,
         scope: Scope,
-    ) -> Result<bool, AllocError>
-        requires fresh { is_spent plain.old ≡ false }
-        requires program { program_tree plain.old ≡ searched self.old }
-        requires there { IsEntryAt (entries self.old) at next (configuration_of plain.old) }
+    ) -> Result<Trial, AllocError>
+        requires exists { at < length (entries self.old) }
         requires in_order { AllInOrder (entries self.old) }
         requires reached { AllReached (searched self.old) (course_of scope.keeps) (entries self.old) }
         ensures program { searched self.new ≡ searched self.old }
-        ensures grows { IfOk result (λ b. b ≡ true → Grows (searched self.old) (course_of scope.keeps) scope.most (entries self.old) (entries self.new)) }
-        ensures expanded { IfOk result (λ b. b ≡ true → (e : Passed) → slice_get (entries self.old) at ≡ Some e
+        ensures grows { IfOk result (λ t. is_tried t ≡ true → Grows (searched self.old) (course_of scope.keeps) scope.most (entries self.old) (entries self.new)) }
+        ensures expanded { IfOk result (λ t. is_tried t ≡ true → (e : Passed) → slice_get (entries self.old) at ≡ Some e
             → IsExpanded (searched self.old) (course_of scope.keeps) (entries self.new) at e.next e.items e.configuration) }
+        ensures led { (i : ℕ) → result ≡ Ok (Trial.Led i) → (e : Passed) → slice_get (entries self.old) at ≡ Some e → CanMove (searched self.old) e.configuration }
     {
         let mut labels = Vec::new(alloc);
-        plain.labels(next, &mut labels)?;
-        self.try_enough(plain, at, next, &labels, scope)
+        self.kept.labels(at as usize, &mut labels)?;
+        let known = self.kept.known(at as usize, hints)?;
+        self.try_enough(at, &labels, known, scope)
     }
 
-    /// Visits an entry: tries its labels, unless the query looks for it. An error means out of memory.
-    fn visit(&mut self, alloc: Global, at: u32, question: &Query) -> Result<Visit, AllocError>
+    /// Whether the query looks for the configuration of entry `at`. An error means out of memory.
+    fn is_shown(&self, at: u32, question: &Query) -> Result<bool, AllocError>
+        requires { at < length (entries self.now) }
+        ensures { result ≡ Ok false → IfSome (slice_get (entries self.now) at) (λ e. IsPassedOver (searched self.now) question.now e) }
+    {
+        let plain = self.kept.configuration(at as usize)?;
+        match judge(&plain, question) {
+            Classification::Neither => Ok(false),
+            Classification::Stuck | Classification::Fault => Ok(true),
+        }
+    }
+
+    /// Visits an entry: tries its labels, unless the query looks for it. An error means out of memory. An entry that no
+    /// object has met an error in, and that a label leads on from, is none that a query looks for.
+    fn visit(
+        &mut self,
+        alloc: Global,
+        hints: &mut Hints,
+        at: u32,
+        question: &Query,
+    ) -> Result<Visit, AllocError>
         requires exists { at < length (entries self.old) }
         requires in_order { AllInOrder (entries self.old) }
         requires reached { AllReached (searched self.old) states_only (entries self.old) }
@@ -497,20 +479,24 @@ impl<'a> Explored<'a> {
         ensures done { result ≡ Ok Visit.Done
             → HasSearched (searched self.old) states_only question.now.most (IsPassedOver (searched self.old) question.now) (entries self.old) (entries self.new) at }
     {
-        let next = self.kept.next_name(at as usize);
-        let mut plain = self.kept.configuration(at as usize)?;
-        match judge(&plain, question) {
-            Classification::Neither => {}
-            Classification::Stuck | Classification::Fault => return Ok(Visit::Shown),
+        if self.kept.has_error(at as usize) && self.is_shown(at, question)? {
+            return Ok(Visit::Shown);
         }
         let scope = Scope {
             keeps: Keeps::States,
             most: question.most,
         };
-        if self.expand(alloc, &mut plain, at, next, scope)? {
-            return Ok(Visit::Done);
+        match self.expand(alloc, hints, at, scope) {
+            Ok(Trial::Led(_)) => Ok(Visit::Done),
+            Ok(Trial::Over) => Ok(Visit::Over),
+            Ok(Trial::Tried) => {
+                if self.is_shown(at, question)? {
+                    return Ok(Visit::Shown);
+                }
+                Ok(Visit::Done)
+            }
+            Err(_) => Err(AllocError),
         }
-        Ok(Visit::Over)
     }
 
     /// Visits the entries in order, and then those that were added meanwhile. This is breadth-first.
@@ -522,9 +508,10 @@ impl<'a> Explored<'a> {
         ensures whole { result ≡ Ok RunEnd.Whole → IsSearchedTo (searched self.old) states_only (IsPassedOver (searched self.old) question.now) (entries self.new) (length (entries self.new)) }
         ensures within { result ≡ Ok RunEnd.Whole → length (entries self.new) ≤ question.now.most }
     {
+        let mut hints = Hints::make(alloc);
         let mut at = 0;
         while (at as usize) < self.kept.len() {
-            match self.visit(alloc, at, question) {
+            match self.visit(alloc, &mut hints, at, question) {
                 Ok(Visit::Done) => at += 1,
                 Ok(Visit::Shown) => return Ok(RunEnd::Shown(at)),
                 Ok(Visit::Over) => return Ok(RunEnd::Over),

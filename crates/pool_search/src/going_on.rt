@@ -1,15 +1,18 @@
 //! Follows the labels of the entries of a whole list, to note which waiters can go on.
-ghost use Rattle.std.specs.Prelude.{◌≡◌, ◌<◌, ◌∷◌, ℕ, [], Ok, Some, None, IfOk, IfSome, OnOk, length, false};
+ghost use Rattle.std.specs.Prelude.{◌≡◌, ◌<◌, ◌∷◌, ℕ, [], Ok, Some, None, IfOk, IfSome, OnOk, length, slice_get, false};
 ghost use Rattle.pool_relation.specs.Configuration.{Configuration};
 ghost use Rattle.pool_relation.specs.Transition.{transition};
 ghost use Rattle.pool_semantics.specs.PlainOf.{configuration_of, program_tree, is_spent};
 ghost use Rattle.pool_search.specs.Entries.{IsEntryAt, entries, searched};
-ghost use Rattle.pool_search.specs.Leads.{IsEdge};
+ghost use Rattle.search_laws.specs.Outcomes.{Passed};
+ghost use Rattle.pool_search.specs.Leads.{HasMovedTo, IsEdge};
 ghost use Rattle.pool_search.specs.WaiterLists.{AreKnown};
 
+use crate::changes::changed_by;
 use crate::explored::{Explored, name_after};
 use crate::scope::Keeps;
 use crate::settling::settle_shown;
+use crate::visited::{Entry, Found};
 use crate::waiters::Waiters;
 use pool_semantics::{Plain, Refuse};
 use run_types::Label;
@@ -103,8 +106,7 @@ impl<'a> Explored<'a> {
             let Ok(entry) = u32::try_from(at) else {
                 return Ok(None);
             };
-            let plain = self.kept.configuration(at)?;
-            match waiters.add(entry, &plain) {
+            match self.kept.add_waiters(at, entry, &mut waiters) {
                 Ok(true) => {}
                 Ok(false) => return Ok(None),
                 Err(_) => return Err(AllocError),
@@ -113,37 +115,94 @@ impl<'a> Explored<'a> {
         Ok(Some(waiters))
     }
 
-    /// Follows a label of entry `at`, where the stepper is, and notes the waiters of the entry that can go on by it.
-    /// Whether one was noted. An error means out of memory.
+    /// Follows a label of entry `at` by the table of moves. `moved` becomes a list of objects that change on the way.
+    /// `Nowhere` also if the label leads to no entry, since choices left it out. An error means out of memory.
+    fn lead_known(
+        &mut self,
+        at: u32,
+        label: &Label,
+        moved: &mut Vec<u32>,
+    ) -> Result<Lead, AllocError>
+        requires { at < length (entries self.old) }
+        ensures same { entries self.new ≡ entries self.old }
+        ensures program { searched self.new ≡ searched self.old }
+        ensures led { (to : ℕ) → result ≡ Ok (Lead.To to) → (e : Passed) → slice_get (entries self.old) at ≡ Some e
+            → HasMovedTo (searched self.old) (entries self.old) e.next e.configuration label.now moved.new.items to }
+    {
+        let from = at as usize;
+        let Some(after) = name_after(self.kept.next_name(from), label) else {
+            return Ok(Lead::Unknown);
+        };
+        let written = self.kept.written(from);
+        match self
+            .kept
+            .lead(from, label, after, written, Keeps::States, false, moved)
+        {
+            Ok(Found::Impossible) => Ok(Lead::Nowhere),
+            Ok(Found::Absent) => Ok(Lead::Nowhere),
+            Ok(Found::At(Entry::Seen(to))) => Ok(Lead::To(to)),
+            Ok(_) => Ok(Lead::Unknown),
+            Err(_) => Err(AllocError),
+        }
+    }
+
+    /// The same by the stepper. An error means out of memory.
+    fn lead_whole(
+        &mut self,
+        alloc: Global,
+        at: u32,
+        label: &Label,
+        moved: &mut Vec<u32>,
+    ) -> Result<Lead, AllocError>
+        requires { at < length (entries self.old) }
+        ensures same { entries self.new ≡ entries self.old }
+        ensures program { searched self.new ≡ searched self.old }
+        ensures led { (to : ℕ) → result ≡ Ok (Lead.To to) → (e : Passed) → slice_get (entries self.old) at ≡ Some e
+            → HasMovedTo (searched self.old) (entries self.old) e.next e.configuration label.now moved.new.items to }
+    {
+        let next = self.kept.next_name(at as usize);
+        let mut plain = self.kept.configuration(at as usize)?;
+        let mut made = Vec::new(alloc);
+        match self.lead(&mut plain, at, next, label, &mut made) {
+            Ok(Lead::To(to)) => {
+                changed_by(&made, moved)?;
+                Ok(Lead::To(to))
+            }
+            Ok(lead) => Ok(lead),
+            Err(_) => Err(AllocError),
+        }
+    }
+
+    /// Follows a label of entry `at`, and notes the waiters of the entry that can go on by it. Whether one was noted. An
+    /// error means out of memory.
     fn note_by(
         &mut self,
-        plain: &mut Plain<'a>,
+        alloc: Global,
         waiters: &mut Waiters,
         at: u32,
-        next: u32,
         label: &Label,
-        made: &mut Vec<Label>,
+        moved: &mut Vec<u32>,
     ) -> Result<bool, AllocError>
-        requires fresh { is_spent plain.old ≡ false }
-        requires program { program_tree plain.old ≡ searched self.old }
-        requires there { IsEntryAt (entries self.old) at next (configuration_of plain.old) }
+        requires exists { at < length (entries self.old) }
         requires known { AreKnown (searched self.old) (entries self.old) waiters.old.list.items }
         ensures same { entries self.new ≡ entries self.old }
         ensures program { searched self.new ≡ searched self.old }
-        ensures again { OnOk result (configuration_of plain.new ≡ configuration_of plain.old) }
-        ensures same_program { OnOk result (program_tree plain.new ≡ program_tree plain.old) }
-        ensures fresh { OnOk result (is_spent plain.new ≡ false) }
         ensures known { OnOk result (AreKnown (searched self.old) (entries self.old) waiters.new.list.items) }
     {
-        let to = match self.lead(plain, at, next, label, made) {
+        let to = match self.lead_known(at, label, moved) {
             Ok(Lead::To(to)) => to,
-            Ok(_) => return Ok(false),
+            Ok(Lead::Nowhere) => return Ok(false),
+            Ok(Lead::Unknown) => match self.lead_whole(alloc, at, label, moved) {
+                Ok(Lead::To(to)) => to,
+                Ok(_) => return Ok(false),
+                Err(_) => return Err(AllocError),
+            },
             Err(_) => return Err(AllocError),
         };
         let (from, until) = waiters.row(at);
         let mut noted = false;
         for index in from..until {
-            if waiters.goes_on_by(index, at, to, made) {
+            if waiters.goes_on_by(index, at, to, moved) {
                 waiters.note(index);
                 noted = true;
             }
@@ -151,32 +210,28 @@ impl<'a> Explored<'a> {
         Ok(noted)
     }
 
-    /// Follows these labels of entry `at`, where the stepper is, and notes the waiters of the entry that can go on by
-    /// them, until all are noted. Whether one was noted. An error means out of memory.
+    /// Follows these labels of entry `at`, and notes the waiters of the entry that can go on by them, until all are noted.
+    /// Whether one was noted. An error means out of memory.
     fn note_by_all(
         &mut self,
         alloc: Global,
-        plain: &mut Plain<'a>,
         waiters: &mut Waiters,
         at: u32,
-        next: u32,
         labels: &[Label],
     ) -> Result<bool, AllocError>
-        requires fresh { is_spent plain.old ≡ false }
-        requires program { program_tree plain.old ≡ searched self.old }
-        requires there { IsEntryAt (entries self.old) at next (configuration_of plain.old) }
+        requires exists { at < length (entries self.old) }
         requires known { AreKnown (searched self.old) (entries self.old) waiters.old.list.items }
         ensures same { entries self.new ≡ entries self.old }
         ensures program { searched self.new ≡ searched self.old }
         ensures known { OnOk result (AreKnown (searched self.old) (entries self.old) waiters.new.list.items) }
     {
-        let mut made = Vec::new(alloc);
+        let mut moved = Vec::new(alloc);
         let mut noted = false;
         for label in labels {
             if !waiters.any_open(at) {
                 return Ok(noted);
             }
-            match self.note_by(plain, waiters, at, next, label, &mut made) {
+            match self.note_by(alloc, waiters, at, label, &mut moved) {
                 Ok(true) => noted = true,
                 Ok(false) => {}
                 Err(_) => return Err(AllocError),
@@ -193,11 +248,9 @@ impl<'a> Explored<'a> {
         ensures program { searched self.new ≡ searched self.old }
         ensures known { OnOk result (AreKnown (searched self.old) (entries self.old) waiters.new.list.items) }
     {
-        let next = self.kept.next_name(at as usize);
-        let mut plain = self.kept.configuration(at as usize)?;
         let mut labels = Vec::new(alloc);
-        plain.labels(next, &mut labels)?;
-        self.note_by_all(alloc, &mut plain, waiters, at, next, &labels)
+        self.kept.labels(at as usize, &mut labels)?;
+        self.note_by_all(alloc, waiters, at, &labels)
     }
 
     /// Visits the entries, the last first, and notes their waiters that can go on. Whether one was noted. An error means

@@ -5,6 +5,7 @@
 //! Does not know: files, sinks and the text of answers.
 #![tactic(auto)]
 
+mod awaited;
 mod changes;
 mod choices;
 mod classifier;
@@ -13,6 +14,8 @@ mod ends;
 mod equality;
 mod explored;
 mod going_on;
+mod hints;
+mod labelling;
 mod made;
 mod numbered;
 mod outcomes;

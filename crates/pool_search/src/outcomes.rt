@@ -5,7 +5,6 @@ ghost use Rattle.std.specs.declared.vec.Vec.{Vec};
 ghost use Rattle.run_types.specs.Tables.{Each};
 ghost use Rattle.run_types.specs.declared.types.Label.{Label};
 ghost use Rattle.pool_syntax.specs.TreeOf.{program_of};
-ghost use Rattle.pool_semantics.specs.PlainOf.{configuration_of, program_tree, is_spent};
 ghost use Rattle.search_laws.specs.Tried.{with_writes};
 ghost use Rattle.pool_search.specs.Courses.{course_of};
 ghost use Rattle.pool_search.specs.Entries.{entries, searched};
@@ -14,8 +13,10 @@ ghost use Rattle.pool_search.specs.OutcomeTargets.{IsShown, IsRunOf, HasAllOutco
 ghost use Rattle.pool_search.specs.Progress.{AllInOrder, AllReached, HasSearched, IsSearchedTo};
 ghost use Rattle.pool_search.specs.declared.outcomes.Outcome.{Outcome as OneOutcome};
 
+use crate::choices::Trial;
 use crate::ends::{Ends, kind_of, written_by};
 use crate::explored::Explored;
+use crate::hints::Hints;
 use crate::retracing::{retrace, way_to};
 use crate::scope::{Keeps, Scope};
 use crate::searching::begin;
@@ -80,32 +81,27 @@ fn scope_of(most: u32) -> Scope
 }
 
 /// Notes the outcome of an entry, if it is an end. An error means out of memory.
-fn note_end(
-    explored: &Explored<'_>,
-    plain: &Plain<'_>,
-    at: u32,
-    ends: &mut Ends,
-) -> Result<(), AllocError>
+fn note_end(explored: &Explored<'_>, at: u32, ends: &mut Ends) -> Result<(), AllocError>
     requires exists { at < length (entries explored.now) }
-    requires fresh { is_spent plain.now ≡ false }
-    requires there { IfSome (slice_get (entries explored.now) at) (λ e. configuration_of plain.now ≡ e.configuration) }
-    requires program { program_tree plain.now ≡ searched explored.now }
     requires reached { AllReached (searched explored.now) with_writes (entries explored.now) }
     ensures noted { OnOk result (IfSome (slice_get (entries explored.now) at) (λ e. IsNoted (searched explored.now) ends.new.list.items e)) }
     ensures grown { OnOk result ((added : List OneOutcome) × (ends.new.list.items ≡ ends.old.list.items ++ added)) }
     ensures shown { OnOk result (Each (IsShown (searched explored.now)) ends.old.list.items → Each (IsShown (searched explored.now)) ends.new.list.items) }
 {
+    let plain = explored.kept.configuration(at as usize)?;
     if plain.moving().is_some() {
         return Ok(());
     }
     let items = explored.kept.items(at as usize)?;
-    ends.note(kind_of(plain), items, at)
+    ends.note(kind_of(&plain), items, at)
 }
 
-/// Visits an entry: notes its outcome, and tries its labels. `false` if a bound is met. An error means out of memory.
+/// Visits an entry: tries its labels, and notes its outcome if none leads on. `false` if a bound is met. An error means
+/// out of memory.
 fn visit(
     alloc: Global,
     explored: &mut Explored<'_>,
+    hints: &mut Hints,
     at: u32,
     most: u32,
     ends: &mut Ends,
@@ -119,10 +115,15 @@ fn visit(
     ensures done { result ≡ Ok true
         → HasSearched (searched explored.old) with_writes most (IsNoted (searched explored.old) ends.new.list.items) (entries explored.old) (entries explored.new) at }
 {
-    let next = explored.kept.next_name(at as usize);
-    let mut plain = explored.kept.configuration(at as usize)?;
-    note_end(explored, &plain, at, ends)?;
-    explored.expand(alloc, &mut plain, at, next, scope_of(most))
+    match explored.expand(alloc, hints, at, scope_of(most)) {
+        Ok(Trial::Led(_)) => Ok(true),
+        Ok(Trial::Over) => Ok(false),
+        Ok(Trial::Tried) => {
+            note_end(explored, at, ends)?;
+            Ok(true)
+        }
+        Err(_) => Err(AllocError),
+    }
 }
 
 /// Visits the entries in order, and then those that were added meanwhile. Whether all were visited: `false` if a bound
@@ -141,9 +142,10 @@ fn visit_all(
     ensures whole { result ≡ Ok true
         → IsSearchedTo (searched explored.old) with_writes (IsNoted (searched explored.old) ends.new.list.items) (entries explored.new) (length (entries explored.new)) }
 {
+    let mut hints = Hints::make(alloc);
     let mut at = 0;
     while (at as usize) < explored.kept.len() {
-        match visit(alloc, explored, at, most, ends) {
+        match visit(alloc, explored, &mut hints, at, most, ends) {
             Ok(true) => at += 1,
             Ok(false) => return Ok(false),
             Err(_) => return Err(AllocError),

@@ -5,11 +5,15 @@ ghost use Rattle.object_moves.specs.Tables.{known_states, table_program};
 ghost use Rattle.pool_search.specs.Numbers.{EntryInvariant, IsNamed};
 ghost use Rattle.pool_search.specs.WritingsOf.{lists_of};
 
+use crate::awaited::{has_error, is_only_awaited};
 use crate::equality::{mark, same_numbered};
+use crate::hints::Hints;
+use crate::labelling::push_to_try;
 use crate::made::{numbers_of, queues_of};
 use crate::numbered::Numbered;
 use crate::restored::{messages_at, objects_at};
 use crate::scope::Keeps;
+use crate::waiters::Waiters;
 use crate::writings::Writings;
 use object_moves::{Lead, MoveTable};
 use pool_semantics::{Plain, State};
@@ -32,6 +36,8 @@ pub enum Found {
     Unknown,
     /// The label is not possible.
     Impossible,
+    /// A configuration that is not in the set and was not added.
+    Absent,
     /// This configuration.
     At(Entry),
 }
@@ -52,18 +58,25 @@ pub struct VisitedSet<'a> {
 }
 
 impl<'a> VisitedSet<'a> {
-    ghost use Rattle.std.specs.Prelude.{◌<◌, ◌++◌, [], ◌∷◌, ℕ, Ok, None, Some, IfOk, IfSome, get_or, OnOk, OnErr, IsTrue, length, slice_get, false};
+    ghost use Rattle.std.specs.Prelude.{◌<◌, ◌++◌, List, [], ◌∷◌, ℕ, Ok, None, Some, IfOk, IfSome, get_or, OnOk, OnErr, IsTrue, length, slice_get, true, false};
     ghost use Rattle.std.specs.Ordering.{nat_cmp};
     ghost use Rattle.std.specs.FinMap.Entries.{is_sorted};
     ghost use Rattle.stepper_objects.specs.ObjectStates.{things};
     ghost use Rattle.pool_semantics.specs.PlainOf.{configuration_of, program_tree, is_spent};
-    ghost use Rattle.reachability.specs.Search.{IsInOrder};
+    ghost use Rattle.reachability.specs.Search.{IsFaulty, IsInOrder};
+    ghost use Rattle.reachability.specs.Labels.{labels_to_try};
+    ghost use Rattle.run_types.specs.declared.types.Label.{Label as OneLabel};
+    ghost use Rattle.search_laws.specs.Stubborn.{IsAwaited, is_served};
     ghost use Rattle.object_moves.specs.Rows.{objects_from};
     ghost use Rattle.pool_search.specs.Numbers.{AreNamedFrom, passed};
     ghost use Rattle.pool_relation.specs.Configuration.{Configuration};
     ghost use Rattle.pool_relation.specs.Transition.{transition};
     ghost use Rattle.pool_search.specs.Courses.{course_of};
-    ghost use Rattle.pool_search.specs.Trials.{IsLedTo};
+    ghost use Rattle.pool_search.specs.Trials.{IsLedBy};
+    ghost use Rattle.pool_search.specs.WaiterLists.{HasWaiter, IsOpen};
+    ghost use Rattle.pool_search.specs.declared.waiters.Waiter.{Waiter as OneWaiter};
+    ghost use Rattle.reachability.specs.Search.{WaitsAt};
+    ghost use Rattle.run_types.specs.Tables.{Each};
     ghost use Rattle.pool_search.specs.VisitedConfigurations.{IsFull, entry, kept_list, kept_lists, kept_program};
 
     /// An empty set for the program of `plain`.
@@ -79,6 +92,11 @@ impl<'a> VisitedSet<'a> {
             entries: Vec::new(alloc),
             latest: HashMap::new(alloc),
         })
+    }
+
+    /// The allocator of its memory.
+    pub fn alloc(&self) -> Global {
+        self.alloc
     }
 
     /// The number of configurations.
@@ -270,10 +288,60 @@ impl<'a> VisitedSet<'a> {
         }
     }
 
-    /// Looks up where the label leads from the configuration at this index, after transitions that are followed. Adds that
-    /// configuration, with this next name and this number of what was written, if it was not found. Tells nothing where a
-    /// message waits, and of labels that make an object or send or take a message; also if a bound is met. An error means
-    /// out of memory.
+    /// Adds the labels to try of the configuration at this index. An error means out of memory.
+    pub fn labels(&self, at: usize, into: &mut Vec<Label>) -> Result<(), AllocError>
+        requires { at < length (kept_list self.now) }
+        ensures { IfSome (slice_get (kept_list self.now) at) (λ e. OnOk result (into.new.items ≡ into.old.items ++ labels_to_try (kept_program self.now) e.next e.configuration)) }
+    {
+        push_to_try(into, &self.moves, &self.entries[at])
+    }
+
+    /// Whether only objects that wait for this object know its name, in the configuration at this index.
+    pub fn is_only_awaited(&self, at: usize, object: u32) -> bool
+        requires { at < length (kept_list self.now) }
+        ensures { result ≡ true → IfSome (slice_get (kept_list self.now) at) (λ e. IsInOrder e.configuration
+            → (l : OneLabel) (d : Configuration) → is_served object l ≡ true → transition (kept_program self.now) e.configuration l ≡ Some d
+            → IsAwaited (kept_program self.now) e.next object e.configuration) }
+    {
+        is_only_awaited(&self.moves, &self.entries[at], object)
+    }
+
+    /// The names below 64, as bits, that some object of the configuration at this index knows which neither has the name nor
+    /// awaits it. Nothing is claimed of them. An error means out of memory.
+    pub fn known(&self, at: usize, hints: &mut Hints) -> Result<u64, AllocError>
+        requires { at < length (kept_list self.now) }
+    {
+        hints.known(&self.moves, &self.entries[at])
+    }
+
+    /// Whether an object has met an error in the configuration at this index.
+    pub fn has_error(&self, at: usize) -> bool
+        requires { at < length (kept_list self.now) }
+        ensures { result ≡ false → IfSome (slice_get (kept_list self.now) at) (λ e. ¬ (IsFaulty e.configuration)) }
+    {
+        has_error(&self.moves, self.entries[at].objects.as_slice())
+    }
+
+    /// Adds the objects that wait in the configuration at this index, as those of the next entry. `false` if no name of 32
+    /// bits is left. An error means out of memory.
+    pub fn add_waiters(
+        &self,
+        at: usize,
+        entry: u32,
+        waiters: &mut Waiters,
+    ) -> Result<bool, AllocError>
+        requires { at < length (kept_list self.now) }
+        ensures grown { OnOk result ((added : List OneWaiter) × (waiters.new.list.items ≡ waiters.old.list.items ++ added)) }
+        ensures none_noted { OnOk result (Each IsOpen waiters.old.list.items → Each IsOpen waiters.new.list.items) }
+        ensures all { result ≡ Ok true → IfSome (slice_get (kept_list self.now) at) (λ e. (o : ℕ) → WaitsAt (kept_program self.now) e.configuration o → HasWaiter false entry o waiters.new.list.items) }
+    {
+        waiters.add(entry, &self.moves, self.entries[at].objects.as_slice())
+    }
+
+    /// Looks up where the label leads from the configuration at this index, after transitions that are followed. If that
+    /// configuration, with this next name and this number of what was written, is not found, it is added if `adds`.
+    /// `moved` becomes a list of objects that these transitions change. `Absent` if it is not
+    /// found and not `adds`. `Unknown` where `MoveTable::lead` cannot tell, and if a bound is met. An error means out of memory.
     pub fn lead(
         &mut self,
         at: usize,
@@ -281,45 +349,56 @@ impl<'a> VisitedSet<'a> {
         next: u32,
         written: u32,
         keeps: Keeps,
+        adds: bool,
+        moved: &mut Vec<u32>,
     ) -> Result<Found, AllocError>
         requires there { at < length (kept_list self.old) }
         requires named { written < length (kept_lists self.old) }
         ensures program { kept_program self.new ≡ kept_program self.old }
         ensures lists { kept_lists self.new ≡ kept_lists self.old }
+        ensures only { adds ≡ false → kept_list self.new ≡ kept_list self.old }
+        ensures absent { result ≡ Ok Found.Absent → kept_list self.new ≡ kept_list self.old }
         ensures unknown { result ≡ Ok Found.Unknown → kept_list self.new ≡ kept_list self.old }
         ensures impossible { result ≡ Ok Found.Impossible
             → (kept_list self.new ≡ kept_list self.old) × IfSome (slice_get (kept_list self.old) at) (λ e. transition (kept_program self.old) e.configuration label.now ≡ None) }
         ensures seen { (i : ℕ) → result ≡ Ok (Found.At (Entry.Seen i))
-            → (kept_list self.new ≡ kept_list self.old) × IfSome (slice_get (kept_list self.old) at) (λ e. (to : Configuration) × IsLedTo (kept_program self.old) (course_of keeps) e.configuration label.now to
+            → (kept_list self.new ≡ kept_list self.old) × IfSome (slice_get (kept_list self.old) at) (λ e. (to : Configuration) × IsLedBy (kept_program self.old) (course_of keeps) e.configuration label.now to moved.new.items
             × (slice_get (kept_list self.old) i ≡ Some (entry next (get_or (kept_lists self.old) written []) to))) }
         ensures added { (i : ℕ) → result ≡ Ok (Found.At (Entry.Added i))
-            → IfSome (slice_get (kept_list self.old) at) (λ e. (to : Configuration) × IsLedTo (kept_program self.old) (course_of keeps) e.configuration label.now to × IsInOrder to
+            → IfSome (slice_get (kept_list self.old) at) (λ e. (to : Configuration) × IsLedBy (kept_program self.old) (course_of keeps) e.configuration label.now to moved.new.items × IsInOrder to
             × (kept_list self.new ≡ kept_list self.old ++ entry next (get_or (kept_lists self.old) written []) to ∷ []) × (i ≡ length (kept_list self.old))) }
     {
         let from = &self.entries[at];
-        if !from.queues.is_empty() {
-            return Ok(Found::Unknown);
-        }
         let mut objects = Vec::from_slice(self.alloc, from.objects.as_slice())?;
-        match self.moves.lead(&mut objects, label, keeps.silent()) {
+        let mut messages = messages_at(self.alloc, from.queues.as_slice())?;
+        match self
+            .moves
+            .lead(&mut objects, &mut messages, moved, label, keeps.silent())
+        {
             Ok(Lead::Unknown) => return Ok(Found::Unknown),
             Ok(Lead::Impossible) => return Ok(Found::Impossible),
             Ok(Lead::Made) => {}
             Err(_) => return Err(AllocError),
         }
+        let queues = queues_of(self.alloc, &messages)?;
         let found = Numbered {
             next,
             written,
             objects,
-            queues: Vec::new(self.alloc),
+            queues,
         };
         let mark = mark(&found);
         match self.seen(mark, &found) {
             Some(at) => Ok(Found::At(Entry::Seen(at))),
-            None => match self.add(mark, found)? {
-                Some(at) => Ok(Found::At(Entry::Added(at))),
-                None => Ok(Found::Unknown),
-            },
+            None => {
+                if !adds {
+                    return Ok(Found::Absent);
+                }
+                match self.add(mark, found)? {
+                    Some(at) => Ok(Found::At(Entry::Added(at))),
+                    None => Ok(Found::Unknown),
+                }
+            }
         }
     }
 }

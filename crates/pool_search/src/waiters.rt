@@ -1,14 +1,15 @@
 //! The objects that wait in calls in the entries of a search, and which of them can go on.
 ghost use Rattle.std.specs.Prelude.{◌≡◌, ◌<◌, ◌++◌, ℕ, List, [], IfSome, OnOk, length, slice_get, slice_set, true, false};
 ghost use Rattle.run_types.specs.Tables.{Each};
-ghost use Rattle.pool_semantics.specs.PlainOf.{configuration_of, program_tree};
+ghost use Rattle.pool_relation.specs.Configuration.{Configuration};
+ghost use Rattle.object_moves.specs.Rows.{AreWithin, objects_from};
+ghost use Rattle.object_moves.specs.Tables.{known_states, table_program};
 ghost use Rattle.reachability.specs.Search.{WaitsAt};
 ghost use Rattle.pool_search.specs.WaiterLists.{GoesOnBy, HasWaiter, IsOpen, noted};
 ghost use Rattle.pool_search.specs.declared.waiters.Waiter.{Waiter as OneWaiter};
 
-use crate::changes::some_changes;
-use pool_semantics::Plain;
-use run_types::Label;
+use known_names::is_calling;
+use object_moves::MoveTable;
 use std::alloc::{AllocError, Global};
 
 /// An object that waits in a call in an entry, and whether it is known that some run goes on with it.
@@ -38,24 +39,34 @@ impl Waiters {
         }
     }
 
-    /// Adds the objects that wait in this configuration, which is that of the next entry. `false` if no name of 32 bits
-    /// is left. An error means out of memory.
-    pub fn add(&mut self, entry: u32, plain: &Plain<'_>) -> Result<bool, AllocError>
+    /// Adds the objects that wait in the next entry, of which these are the state numbers. `false` if no name of 32 bits is
+    /// left. An error means out of memory.
+    pub fn add(
+        &mut self,
+        entry: u32,
+        moves: &MoveTable<'_>,
+        numbers: &[u32],
+    ) -> Result<bool, AllocError>
+        requires { AreWithin (known_states moves.now) numbers.now }
         ensures grown { OnOk result ((added : List OneWaiter) × (self.new.list.items ≡ self.old.list.items ++ added)) }
         ensures none_noted { OnOk result (Each IsOpen self.old.list.items → Each IsOpen self.new.list.items) }
-        ensures all { result ≡ Ok true → (o : ℕ) → WaitsAt (program_tree plain.now) (configuration_of plain.now) o → HasWaiter false entry o self.new.list.items }
+        ensures all { result ≡ Ok true → (c : Configuration) → c.objects ≡ objects_from 0 (known_states moves.now) numbers.now
+            → (o : ℕ) → WaitsAt (table_program moves.now) c o → HasWaiter false entry o self.new.list.items }
     {
         self.starts.push(self.list.len())?;
-        let mut from = 0;
-        while let Some(waiting) = plain.waiting(from) {
-            self.list.push(Waiter {
-                entry,
-                object: waiting.object,
-                goes_on: false,
-            })?;
-            match waiting.object.checked_add(1) {
-                Some(next) => from = next,
-                None => return Ok(false),
+        for (i, number) in numbers.iter().enumerate() {
+            let Some(thing) = moves.get(*number) else {
+                unreachable!();
+            };
+            let Ok(object) = u32::try_from(i) else {
+                return Ok(false);
+            };
+            if is_calling(moves.program(), object, thing) {
+                self.list.push(Waiter {
+                    entry,
+                    object,
+                    goes_on: false,
+                })?;
             }
         }
         Ok(true)
@@ -135,10 +146,10 @@ impl Waiters {
         false
     }
 
-    /// Whether the waiter at this index is one of entry `at` of which this is not known yet: one of the labels changes
-    /// it, or it can go on in entry `to`.
-    pub fn goes_on_by(&self, index: usize, at: u32, to: u32, labels: &[Label]) -> bool
-        ensures { result ≡ true → GoesOnBy index at to labels.now self.now.list.items }
+    /// Whether the waiter at this index is one of entry `at` of which this is not known yet: it is one of the objects, or
+    /// it can go on in entry `to`.
+    pub fn goes_on_by(&self, index: usize, at: u32, to: u32, moved: &[u32]) -> bool
+        ensures { result ≡ true → GoesOnBy index at to moved.now self.now.list.items }
     {
         let Some(waiter) = self.at(index) else {
             return false;
@@ -149,7 +160,7 @@ impl Waiters {
         if waiter.goes_on {
             return false;
         }
-        if some_changes(waiter.object, labels) {
+        if moved.contains(&waiter.object) {
             return true;
         }
         self.has(true, to, waiter.object)

@@ -1,38 +1,52 @@
-use Rattle.std.proofs.Common.{◌≡◌, Bool, true, ℕ, Some, refl, subst, slice_get}
-use Rattle.std.specs.Prelude.{IfOk, IfSome}
-use Rattle.pool_semantics.specs.PlainOf.{configuration_of}
+use Rattle.std.proofs.Common.{◌≡◌, ℕ, true, Ok, ap, subst}
+use Rattle.std.specs.Prelude.{IfSome}
+use Rattle.pool_syntax.specs.Terms.{ProgramTree}
 use Rattle.search_laws.specs.Outcomes.{Passed}
-use Rattle.search_laws.specs.Tried.{Course, IsExpanded, with_writes}
+use Rattle.search_laws.specs.Tried.{Course, with_writes}
 use Rattle.pool_search.specs.Courses.{course_of}
-use Rattle.pool_search.specs.Entries.{IsEntryAt, entries, searched}
+use Rattle.pool_search.specs.Entries.{entries, searched}
 use Rattle.pool_search.specs.FoundOutcomes.{IsNoted}
-use Rattle.pool_search.specs.VisitedConfigurations.{entry}
-use Rattle.pool_search.specs.Progress.{Grows}
-use Rattle.pool_search.proofs.EntryExpansion.{entry_is, has_searched}
+use Rattle.pool_search.specs.Progress.{Entries, HasSearched}
+use Rattle.pool_search.specs.Trials.{is_tried}
+use Rattle.pool_search.proofs.EntryExpansion.{entry_there, has_searched, still_there}
+use Rattle.pool_search.proofs.OutcomesComplete.{noted_moving}
 use Rattle.pool_search.proofs.outcomes.visit.Goals as goal
 
-pub expand-requires-clause-there : goal.expand-requires-clause-there
-expand-requires-clause-there c =
-    entry_is (entries c.args.explored.now) c.args.at c.next_name-next.result (configuration_of c.in_ok-plain.plain) c.requires.exists c.next_name-next.ensures c.in_ok-plain.ensures.configuration
+-- the scope is that of a search for outcomes
+in_scope : (p : ProgramTree) (k : Course) (n most : ℕ) (P : Passed → Type 0) (es fs : Entries) (at : ℕ) → (n ≡ most) × (k ≡ with_writes) → HasSearched p k n P es fs at
+    → HasSearched p with_writes most P es fs at
+in_scope p k n most P es fs at is h = subst (λ (q : Course). HasSearched p q most P es fs at) is.1 (subst (λ (m : ℕ). HasSearched p k m P es fs at) is.0 h)
 
-pub returns-clause-done : goal.returns-clause-done
-returns-clause-done c =
+pub returns-in-Ok-Led-clause-done : goal.returns-in-Ok-Led-clause-done
+returns-in-Ok-Led-clause-done c =
     let p = searched c.args.explored.now in
+    let k = course_of c.scope_of.result.keeps in
+    let most = c.scope_of.result.most in
+    let es = entries c.args.explored.now in
+    let fs = entries c.expand.new.self in
+    let P = IsNoted p c.args.ends.now.list.items in
+    let here = entry_there es c.args.at c.requires.exists in
+    let e = here.0 in
+    let tried : is_tried c.in-Ok-Led.field-0 ≡ true = ap is_tried c.in-Ok-Led.field-0-is in
+    let noted = noted_moving p c.args.ends.now.list.items e (c.in-Ok-Led.ensures.led c.in-Ok-Led.field-0-0 (ap Ok c.in-Ok-Led.field-0-is) e here.1) in
+    λ _. in_scope p k most c.args.most P es fs c.args.at c.scope_of.ensures
+    (has_searched p k most P es fs c.args.at e here.1 noted (c.in-Ok-Led.ensures.grows tried) (c.in-Ok-Led.ensures.expanded tried e here.1))
+
+pub returns-in_ok-note_end-in-Ok-Tried-clause-done : goal.returns-in_ok-note_end-in-Ok-Tried-clause-done
+returns-in_ok-note_end-in-Ok-Tried-clause-done c =
+    let p = searched c.args.explored.now in
+    let k = course_of c.scope_of.result.keeps in
+    let most = c.scope_of.result.most in
     let es = entries c.args.explored.now in
     let fs = entries c.expand.new.self in
     let os = c.note_end.new.ends.list.items in
-    let next = c.next_name-next.result in
-    let at = configuration_of c.in_ok-plain.plain in
-    let there : IsEntryAt es c.args.at next at = entry_is es c.args.at next at c.requires.exists c.next_name-next.ensures c.in_ok-plain.ensures.configuration in
-    let here = entry next there.0 at in
-    let noted : IsNoted p os here = subst (λ o. IfSome o (λ e. IsNoted p os e)) there.1 c.in_ok-note_end.ensures.noted in
-    let k = course_of c.scope_of.result.keeps in
-    let most = c.scope_of.result.most in
-    λ i.
-    let grown : Grows p k most es fs = (subst (λ r. IfOk r (λ b. b ≡ true → Grows p k most es fs)) i c.expand.ensures.grows) refl in
-    let tried : IsExpanded p k fs c.args.at here.next here.items here.configuration =
-    (subst (λ r. IfOk r (λ b. b ≡ true → (e : Passed) → slice_get es c.args.at ≡ Some e → IsExpanded p k fs c.args.at e.next e.items e.configuration)) i c.expand.ensures.expanded) refl here there.1
+    let here = entry_there es c.args.at c.requires.exists in
+    let e = here.0 in
+    let tried : is_tried c.in-Ok-Tried.field-0 ≡ true = ap is_tried c.in-Ok-Tried.field-0-is in
+    let grows = c.in-Ok-Tried.ensures.grows tried in
+    let noted : IsNoted (searched c.expand.new.self) os e =
+    subst (λ o. IfSome o (IsNoted (searched c.expand.new.self) os)) (still_there p k most es fs c.args.at e grows here.1) c.in_ok-note_end-in-Ok-Tried.ensures.noted
     in
-    has_searched p with_writes c.args.most (IsNoted p os) es fs c.args.at here there.1 noted
-    (subst (λ (q : Course). Grows p q c.args.most es fs) c.scope_of.ensures.1 (subst (λ (m : ℕ). Grows p k m es fs) c.scope_of.ensures.0 grown))
-    (subst (λ (q : Course). IsExpanded p q fs c.args.at here.next here.items here.configuration) c.scope_of.ensures.1 tried)
+    λ _. in_scope p k most c.args.most (IsNoted p os) es fs c.args.at c.scope_of.ensures
+    (has_searched p k most (IsNoted p os) es fs c.args.at e here.1 (subst (λ (q : ProgramTree). IsNoted q os e) c.expand.ensures.program noted) grows
+    (c.in-Ok-Tried.ensures.expanded tried e here.1))

@@ -1,4 +1,4 @@
-use Rattle.std.proofs.Common.{◌≡◌, ◌∙◌, ◌++◌, List, true, ap, sym, subst, length, length-append, arith, Ok}
+use Rattle.std.proofs.Common.{◌∙◌, ap, sym, subst, length, length-append, arith, Ok}
 use Rattle.run_types.specs.Tables.{Each}
 use Rattle.pool_syntax.specs.Terms.{ProgramTree}
 use Rattle.search_laws.specs.Tried.{with_writes}

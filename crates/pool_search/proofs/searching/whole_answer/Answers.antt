@@ -3,7 +3,7 @@ use Rattle.pool_syntax.specs.Terms.{ProgramTree}
 use Rattle.pool_syntax.specs.TreeOf.{program_of}
 use Rattle.search_laws.specs.Tried.{states_only}
 use Rattle.search_laws.proofs.Laws.{nameless}
-use Rattle.pool_search.specs.Entries.{IsPassedOver, entries, searched}
+use Rattle.pool_search.specs.Entries.{IsPassedOver, entries}
 use Rattle.pool_search.specs.Progress.{IsSearchedTo}
 use Rattle.pool_search.specs.WaiterLists.{AreKnown}
 use Rattle.pool_search.specs.SearchTargets.{wants_stuck}

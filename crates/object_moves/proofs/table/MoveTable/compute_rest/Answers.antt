@@ -1,4 +1,4 @@
-use Rattle.std.proofs.Common.{◌≡◌, refl, sym, ap, subst, ◌∙◌, slice_get, Some, arith}
+use Rattle.std.proofs.Common.{◌≡◌, refl, sym, ap, subst, ◌∙◌, List, slice_get, Some, arith}
 use Rattle.std.specs.Ordering.{nat_cmp}
 use Rattle.std.specs.Option.{IfSome, option_copied}
 use Rattle.std.specs.BTreeMap.{get}
@@ -12,14 +12,17 @@ use Rattle.run_types.proofs.Laws.{same_some}
 use Rattle.search_states.specs.States.{states}
 use Rattle.stepper_objects.specs.ObjectStates.{thing_object}
 use Rattle.object_moves.specs.Effects.{alone, strolled}
-use Rattle.object_moves.specs.Known.{state_at}
+use Rattle.object_moves.specs.Known.{IsKnownRest, state_at}
+use Rattle.object_moves.specs.declared.known.KnownRest.{KnownRest}
+use Rattle.object_moves.specs.declared.table.MoveTable.{MoveTable}
 use Rattle.object_moves.proofs.KnownFacts.{object_in, rest_computed, state_there}
 use Rattle.object_moves.proofs.SmallConfigurations.{alone_object}
 use Rattle.object_moves.proofs.StateGrowth.{no_shorter, state_still}
 use Rattle.object_moves.proofs.table.MoveTable.compute_rest.Goals as goal
+use Rattle.object_moves.proofs.table.MoveTable.compute_rest.Goals.{in-Some-next_message+in_ok-next-in-Some-next_message, in-None}
 
-pub returns-in-Some-3-clause-is : goal.returns-in-Some-3-clause-is
-returns-in-Some-3-clause-is c =
+pub returns-clause-is : goal.returns-clause-is
+returns-clause-is c =
     let p = program_of c.args.self.now.program.now in
     let xs = states c.args.self.now.table in
     let ys = states c.number_of.new.self.table in
@@ -42,9 +45,14 @@ returns-in-Some-3-clause-is c =
     let moved : strolled p o steps x ≡ Some (state_at ys n) =
     subst (λ (q : ProgramTree). strolled q o steps x ≡ Some strolls.0) c.in_ok-small.ensures.program strolls.2 ∙ ap Some (same ∙ sym (state_there ys n (thing_object t) at))
     in
-    let here : state_at ys s ≡ x = state_still xs ys s grown c.requires ∙ state_there xs s x (sym c.in-Some.ensures) in (
-      rest_computed p ys (record { object = o; state = s; steps = steps; to = n; next = c.next_of-next.result }) (omega (arith, c.requires)) (slice_get_within ys n (thing_object t) at)
-          (ap (strolled p o steps) here ∙ moved),
-      refl,
-      refl,
-    )
+    let here : state_at ys s ≡ x = state_still xs ys s grown c.requires ∙ state_there xs s x (sym c.in-Some.ensures) in
+    let next = c.match-next_message in
+    let still : states next.self.table ≡ ys =
+    elim next.branch [
+      | in-Some-next_message+in_ok-next-in-Some-next_message w ↦ ap (λ (m : MoveTable). states m.table) w.self-is ∙ w.in_ok-next-in-Some-next_message.ensures.states
+      | in-None w ↦ ap (λ (m : MoveTable). states m.table) w.self-is
+    ]
+    in
+    let k : KnownRest = record { object = o; state = s; steps = steps; to = n; next = next.next } in
+    let known : IsKnownRest p ys k = rest_computed p ys k (omega (arith, c.requires)) (slice_get_within ys n (thing_object t) at) (ap (strolled p o steps) here ∙ moved) in
+    (subst (λ (zs : List Object). IsKnownRest p zs k) (sym still) known, refl, refl)

@@ -11,4 +11,4 @@ pub invariant_of-self-2 : goal.invariant_of-self-2
 invariant_of-self-2 c =
     let m = c.args.self.now in
     let P = IsKnownOne (program_of m.program.now) (states m.table) in
-    record { known_ones = subst (All P) (sym c.push.ensures.items) (pushed P (is_ok c.push.result) m.ones.items c.args.known m.known_ones c.requires); known_twos = m.known_twos; known_rests = m.known_rests }
+    record { known_ones = subst (All P) (sym c.push.ensures.items) (pushed P (is_ok c.push.result) m.ones.items c.args.known m.known_ones c.requires); known_mails = m.known_mails; known_news = m.known_news; known_twos = m.known_twos; known_rests = m.known_rests }

@@ -11,4 +11,4 @@ pub invariant_of-self-2 : goal.invariant_of-self-2
 invariant_of-self-2 c =
     let m = c.args.self.now in
     let P = IsKnownTwo (program_of m.program.now) (states m.table) in
-    record { known_ones = m.known_ones; known_twos = subst (All P) (sym c.push.ensures.items) (pushed P (is_ok c.push.result) m.twos.items c.args.known m.known_twos c.requires); known_rests = m.known_rests }
+    record { known_ones = m.known_ones; known_mails = m.known_mails; known_news = m.known_news; known_twos = subst (All P) (sym c.push.ensures.items) (pushed P (is_ok c.push.result) m.twos.items c.args.known m.known_twos c.requires); known_rests = m.known_rests }

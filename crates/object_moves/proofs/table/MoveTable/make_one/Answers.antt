@@ -13,7 +13,7 @@ use Rattle.object_moves.proofs.RowMoves.{set_within, solo_impossible, solo_leads
 use Rattle.object_moves.proofs.table.MoveTable.make_one.Goals as goal
 
 pub returns-in-Ok-Some-Impossible-clause-impossible : goal.returns-in-Ok-Some-Impossible-clause-impossible
-returns-in-Ok-Some-Impossible-clause-impossible c = λ _.
+returns-in-Ok-Some-Impossible-clause-impossible c = λ ms _.
     let p = program_of c.args.self.now.program.now in
     let xs = states c.args.self.now.table in
     let ys = states c.one.new.self.table in
@@ -25,7 +25,7 @@ returns-in-Ok-Some-Impossible-clause-impossible c = λ _.
     let there : slice_get ns o ≡ Some s = read_at c.as_slice.result.now ns o s c.as_slice.ensures.value l.3.0 l.1 in
     let told = c.in-Ok-Some-Impossible in
     let is : effect_one p e (state_at xs s) ≡ None = subst (λ r. IfSome r (λ m. effect_one p e (state_at xs s) ≡ one_of ys m)) (told.field-0-is ∙ ap Some told.field-0-0-is) told.ensures.is in
-    solo_impossible p xs ns o c.args.act (slice_get_within ns o s there) (ap (λ n. effect_one p e (state_at xs n)) (get_or_from_slice_get ns o s 0 there) ∙ is)
+    solo_impossible p xs ns ms o c.args.act (slice_get_within ns o s there) (ap (λ n. effect_one p e (state_at xs n)) (get_or_from_slice_get ns o s 0 there) ∙ is)
 
 pub returns-in-Ok-Some-To-clause-within : goal.returns-in-Ok-Some-To-clause-within
 returns-in-Ok-Some-To-clause-within c =
@@ -36,7 +36,7 @@ returns-in-Ok-Some-To-clause-within c =
     set_within xs ys c.args.numbers.now.items told.ensures.grows c.requires.within c.args.object told.to (All-head (λ n. n < length ys) told.to [] within)
 
 pub returns-in-Ok-Some-To-clause-made : goal.returns-in-Ok-Some-To-clause-made
-returns-in-Ok-Some-To-clause-made c = λ _.
+returns-in-Ok-Some-To-clause-made c = λ ms _.
     let p = program_of c.args.self.now.program.now in
     let xs = states c.args.self.now.table in
     let ys = states c.one.new.self.table in
@@ -48,4 +48,4 @@ returns-in-Ok-Some-To-clause-made c = λ _.
     let there : slice_get ns o ≡ Some s = read_at c.as_slice.result.now ns o s c.as_slice.ensures.value l.3.0 l.1 in
     let told = c.in-Ok-Some-To in
     let is : effect_one p e (state_at xs s) ≡ Some (state_at ys told.to) = subst (λ r. IfSome r (λ m. effect_one p e (state_at xs s) ≡ one_of ys m)) (told.field-0-is ∙ ap Some told.field-0-0-is) told.ensures.is in
-    solo_leads p xs ns ys o told.to c.args.act told.ensures.grows c.requires.within (slice_get_within ns o s there) (ap (λ n. effect_one p e (state_at xs n)) (get_or_from_slice_get ns o s 0 there) ∙ is)
+    solo_leads p xs ns ms ys o told.to c.args.act told.ensures.grows c.requires.within (slice_get_within ns o s there) (ap (λ n. effect_one p e (state_at xs n)) (get_or_from_slice_get ns o s 0 there) ∙ is)

@@ -2,6 +2,7 @@ use Rattle.std.proofs.Common.{◌≡◌, ◌<◌, ℕ, ap, ap₂, subst, ◌∙�
 use Rattle.std.specs.Option.{IfSome}
 use Rattle.std.proofs.lemmas.List.Elements.{All-head, All-tail}
 use Rattle.std.proofs.lemmas.Option.{get_or_from_slice_get, slice_get_within}
+use Rattle.pool_semantics.specs.Mails.{posts}
 use Rattle.pool_syntax.specs.TreeOf.{program_of}
 use Rattle.search_states.specs.States.{states}
 use Rattle.object_moves.specs.Effects.{effect_two}
@@ -18,6 +19,7 @@ returns-in-Ok-Some-Impossible-clause-impossible c = λ _.
     let xs = states c.args.self.now.table in
     let ys = states c.two.new.self.table in
     let ns = c.args.numbers.now.items in
+    let ms = posts c.args.messages.now.entries in
     let b = c.args.receiver in
     let o = c.args.caller in
     let a = c.args.act.now in
@@ -31,7 +33,7 @@ returns-in-Ok-Some-Impossible-clause-impossible c = λ _.
     let is : effect_two p (duo_label b o a) (state_at xs s) (state_at xs t) ≡ None =
     subst (λ r. IfSome r (λ m. effect_two p (duo_label b o a) (state_at xs s) (state_at xs t) ≡ two_of ys m)) (told.field-0-is ∙ ap Some told.field-0-0-is) told.ensures.is
     in
-    duo_impossible p xs ns b o a (slice_get_within ns b s there) (slice_get_within ns o t here)
+    duo_impossible p xs ns ms b o a (c.waits.ensures c.if-waits.false) (slice_get_within ns b s there) (slice_get_within ns o t here)
     (ap₂ (λ n m. effect_two p (duo_label b o a) (state_at xs n) (state_at xs m)) (get_or_from_slice_get ns b s 0 there) (get_or_from_slice_get ns o t 0 here) ∙ is)
 
 pub returns-in-Ok-Some-To-clause-within : goal.returns-in-Ok-Some-To-clause-within
@@ -51,6 +53,7 @@ returns-in-Ok-Some-To-clause-made c = λ _.
     let xs = states c.args.self.now.table in
     let ys = states c.two.new.self.table in
     let ns = c.args.numbers.now.items in
+    let ms = posts c.args.messages.now.entries in
     let b = c.args.receiver in
     let o = c.args.caller in
     let a = c.args.act.now in
@@ -68,6 +71,6 @@ returns-in-Ok-Some-To-clause-made c = λ _.
     in
     let within : AreWithin ys (numbers_of_two (W.To n k)) = subst (λ r. IfSome r (λ m. AreWithin ys (numbers_of_two m))) (told.field-0-is ∙ ap Some told.field-0-0-is) told.ensures.within in
     let P : ℕ → Type 0 = λ i. i < length ys in
-    duo_leads p xs ns ys b o n k a told.ensures.grows c.requires.within (slice_get_within ns b s there) (slice_get_within ns o t here) c.if-receiver-caller.false (All-head P n (k ∷ []) within)
+    duo_leads p xs ns ms ys b o n k a (c.waits.ensures c.if-waits.false) told.ensures.grows c.requires.within (slice_get_within ns b s there) (slice_get_within ns o t here) c.if-receiver-caller.false (All-head P n (k ∷ []) within)
     (All-head P k [] (All-tail P n (k ∷ []) within))
     (ap₂ (λ n m. effect_two p (duo_label b o a) (state_at xs n) (state_at xs m)) (get_or_from_slice_get ns b s 0 there) (get_or_from_slice_get ns o t 0 here) ∙ is)

@@ -10,7 +10,7 @@ use Rattle.object_moves.proofs.RowMoves.{rest_leads}
 use Rattle.object_moves.proofs.table.MoveTable.rest_in.Goals as goal
 
 pub returns-in-Ok-Some-clause-follows : goal.returns-in-Ok-Some-clause-follows
-returns-in-Ok-Some-clause-follows c = λ silent.
+returns-in-Ok-Some-clause-follows c = λ silent ms.
     let p = program_of c.args.self.now.program.now in
     let xs = states c.args.self.now.table in
     let ys = states c.rest.new.self.table in
@@ -23,4 +23,4 @@ returns-in-Ok-Some-clause-follows c = λ silent.
     let is : strolled p o k.steps (state_at xs s) ≡ Some (state_at ys k.to) =
     subst (λ r. IfSome r (λ k. strolled p o k.steps (state_at xs s) ≡ Some (state_at ys k.to))) c.in-Ok-Some.field-0-is c.in-Ok-Some.ensures.is
     in
-    rest_leads p xs ns ys o k.steps k.to silent c.in-Ok-Some.ensures.grows c.requires.within (slice_get_within ns o s there) (ap (λ n. strolled p o k.steps (state_at xs n)) (get_or_from_slice_get ns o s 0 there) ∙ is)
+    rest_leads p xs ns ms ys o k.steps k.to silent c.in-Ok-Some.ensures.grows c.requires.within (slice_get_within ns o s there) (ap (λ n. strolled p o k.steps (state_at xs n)) (get_or_from_slice_get ns o s 0 there) ∙ is)

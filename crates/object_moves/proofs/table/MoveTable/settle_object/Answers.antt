@@ -1,40 +1,86 @@
-use Rattle.std.proofs.Common.{◌≡◌, sym, ap, subst, ◌∙◌, Ok, Some, Bool}
+use Rattle.std.proofs.Common.{◌≡◌, sym, ap, subst, ◌∙◌, ℕ, List, [], ◌∷◌, Ok, Some, Bool}
 use Rattle.std.specs.Option.{IfSome}
+use Rattle.run_types.specs.Message.{Message}
+use Rattle.run_types.specs.Tables.{Pair}
+use Rattle.pool_semantics.specs.Mails.{posts}
 use Rattle.pool_syntax.specs.Terms.{ProgramTree}
 use Rattle.pool_syntax.specs.TreeOf.{program_of}
+use Rattle.pool_relation.specs.Action.{Object}
 use Rattle.pool_relation.specs.Transition.{transition}
 use Rattle.search_laws.specs.Tried.{Follows}
 use Rattle.search_states.specs.States.{states}
-use Rattle.object_moves.specs.Followed.{course}
+use Rattle.object_moves.specs.Followed.{HasMoved, course}
 use Rattle.object_moves.specs.Known.{duo_label, solo_label}
 use Rattle.object_moves.specs.Rows.{row}
-use Rattle.object_moves.proofs.FollowedRows.{follows_more, return_followed}
+use Rattle.object_moves.proofs.FollowedMoves.{Moves, caller_changes, moved_one, moved_two, moves_both, moves_more, moves_nothing, receiver_changes, solo_changes}
+use Rattle.object_moves.proofs.FollowedRows.{return_followed}
 use Rattle.object_moves.proofs.table.MoveTable.settle_object.Goals as goal
+
+-- the local transitions are followed under both courses, whatever messages wait
+abbrev Rests : ProgramTree → List Object → List ℕ → List Object → List ℕ → Type 0
+Rests p xs ns ys ks = (s : Bool) (ms : List (Pair × List Message)) → Follows p (course s) (row xs ns ms) (row ys ks ms)
 
 pub returns-in_ok-push-in-Ok-Made-clause-follows : goal.returns-in_ok-push-in-Ok-Made-clause-follows
 returns-in_ok-push-in-Ok-Made-clause-follows c = λ _.
     let p = program_of c.args.self.now.program.now in
     let k = course c.args.silent in
-    let from = row (states c.args.self.now.table) c.args.numbers.now.items in
-    let mid = row (states c.rest_in.new.self.table) c.rest_in.new.numbers.items in
-    let to = row (states c.make_one.new.self.table) c.make_one.new.numbers.items in
+    let ms = posts c.args.messages.now.entries in
+    let xs = states c.args.self.now.table in
+    let ns = c.args.numbers.now.items in
+    let ys = states c.rest_in.new.self.table in
+    let ks = c.rest_in.new.numbers.items in
+    let from = row xs ns ms in
+    let mid = row ys ks ms in
+    let to = row (states c.make_one.new.self.table) c.make_one.new.numbers.items ms in
     let l = solo_label c.args.object c.in-Makes.act in
-    let rests : (s : Bool) → Follows p (course s) from mid = subst (λ r. IfSome r (λ _. (s : Bool) → Follows p (course s) from mid)) c.in-Some.is c.in_ok-next.ensures.follows in
+    let rests : Rests p xs ns ys ks = subst (λ r. IfSome r (λ _. Rests p xs ns ys ks)) c.in-Some.is c.in_ok-next.ensures.follows in
     let step : transition p mid l ≡ Some to =
-    subst (λ (q : ProgramTree). transition q mid l ≡ Some to) (ap (λ r. program_of r.now) c.rest_in.ensures.program) (c.in-Ok-Made.ensures.made (ap Ok c.in-Ok-Made.field-0-is))
+    subst (λ (q : ProgramTree). transition q mid l ≡ Some to) (ap (λ r. program_of r.now) c.rest_in.ensures.program) (c.in-Ok-Made.ensures.made ms (ap Ok c.in-Ok-Made.field-0-is))
     in
-    follows_more p k from mid to l (rests c.args.silent) (sym (c.is_followed.ensures c.args.object) ∙ c.if-not-is_followed.false) step
+    let os = c.args.moved.now.items in
+    let qs = c.push.new.self.items in
+    let moved : HasMoved (l ∷ []) os qs = moved_one l os qs c.args.object (solo_changes c.args.object c.in-Makes.act) c.in_ok-push-in-Ok-Made.ensures.items in
+    moves_more p k from mid to os os qs l (moves_nothing p k from mid os (rests c.args.silent ms)) (sym (c.is_followed.ensures c.args.object) ∙ c.if-not-is_followed.false) step moved
 
 pub returns-in_ok-push-in-Ok-Made-make_two-2-clause-follows : goal.returns-in_ok-push-in-Ok-Made-make_two-2-clause-follows
 returns-in_ok-push-in-Ok-Made-make_two-2-clause-follows c = λ _.
     let p = program_of c.args.self.now.program.now in
     let k = course c.args.silent in
-    let from = row (states c.args.self.now.table) c.args.numbers.now.items in
-    let mid = row (states c.rest_in.new.self.table) c.rest_in.new.numbers.items in
-    let to = row (states c.make_two.new.self.table) c.make_two.new.numbers.items in
+    let ms = posts c.args.messages.now.entries in
+    let xs = states c.args.self.now.table in
+    let ns = c.args.numbers.now.items in
+    let ys = states c.rest_in.new.self.table in
+    let ks = c.rest_in.new.numbers.items in
+    let from = row xs ns ms in
+    let mid = row ys ks ms in
+    let to = row (states c.make_two.new.self.table) c.make_two.new.numbers.items ms in
     let l = duo_label c.args.object c.in-Returns.caller c.give.result in
-    let rests : (s : Bool) → Follows p (course s) from mid = subst (λ r. IfSome r (λ _. (s : Bool) → Follows p (course s) from mid)) c.in-Some.is c.in_ok-next.ensures.follows in
+    let rests : Rests p xs ns ys ks = subst (λ r. IfSome r (λ _. Rests p xs ns ys ks)) c.in-Some.is c.in_ok-next.ensures.follows in
     let step : transition p mid l ≡ Some to =
     subst (λ (q : ProgramTree). transition q mid l ≡ Some to) (ap (λ r. program_of r.now) c.rest_in.ensures.program) (c.in-Ok-Made-make_two.ensures.made (ap Ok c.in-Ok-Made-make_two.field-0-is))
     in
-    follows_more p k from mid to l (rests c.args.silent) (return_followed c.args.silent c.args.object c.in-Returns.caller c.give.result c.in-Returns.value c.give.ensures) step
+    let os = c.args.moved.now.items in
+    let rs = c.push-in-Ok-Made-make_two-2.new.self.items in
+    let moved : HasMoved (l ∷ []) os rs =
+    moved_two l os c.push-in-Ok-Made-make_two.new.self.items rs c.args.object c.in-Returns.caller (receiver_changes c.args.object c.in-Returns.caller c.give.result) (caller_changes c.args.object c.in-Returns.caller c.give.result)
+    c.in_ok-push-in-Ok-Made-make_two.ensures.items c.in_ok-push-in-Ok-Made-make_two-2.ensures.items
+    in
+    moves_more p k from mid to os os rs l (moves_nothing p k from mid os (rests c.args.silent ms)) (return_followed c.args.silent c.args.object c.in-Returns.caller c.give.result c.in-Returns.value c.give.ensures) step moved
+
+pub returns-in-Sends-clause-follows : goal.returns-in-Sends-clause-follows
+returns-in-Sends-clause-follows c = λ h.
+    let p = program_of c.args.self.now.program.now in
+    let k = course c.args.silent in
+    let ms = posts c.args.messages.now.entries in
+    let xs = states c.args.self.now.table in
+    let ns = c.args.numbers.now.items in
+    let ys = states c.rest_in.new.self.table in
+    let ks = c.rest_in.new.numbers.items in
+    let from = row xs ns ms in
+    let mid = row ys ks ms in
+    let to = row (states c.settle_send.new.self.table) c.settle_send.new.numbers.items (posts c.settle_send.new.messages.entries) in
+    let rests : Rests p xs ns ys ks = subst (λ r. IfSome r (λ _. Rests p xs ns ys ks)) c.in-Some.is c.in_ok-next.ensures.follows in
+    let os = c.args.moved.now.items in
+    let qs = c.settle_send.new.moved.items in
+    let more : Moves p k mid to os qs = subst (λ (q : ProgramTree). Moves q k mid to os qs) (ap (λ r. program_of r.now) c.rest_in.ensures.program) (c.settle_send.ensures.follows h c.args.silent) in
+    moves_both p k from mid to os os qs (moves_nothing p k from mid os (rests c.args.silent ms)) more

@@ -1,5 +1,5 @@
-use Rattle.std.proofs.Common.{subst, sym, ◌++◌, ◌∷◌, [], ◌∙◌, ap}
-use Rattle.pool_search.specs.FoundOutcomes.{HasOne, outcome}
+use Rattle.std.proofs.Common.{subst, sym}
+use Rattle.pool_search.specs.FoundOutcomes.{HasOne}
 use Rattle.pool_search.proofs.FoundLists.{has_last}
 use Rattle.pool_search.proofs.ends.Ends.note.Goals as goal
 

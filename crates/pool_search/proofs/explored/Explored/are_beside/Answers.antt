@@ -1,5 +1,4 @@
-use Rattle.std.proofs.Common.{◌≡◌, ◌⊎◌, ◌<◌, ◌∙◌, inl, inr, refl, subst, sym, ap, get_or, Ok, Bool, true, false, not, length, arith}
-use Rattle.run_types.specs.declared.types.Label.{Label}
+use Rattle.std.proofs.Common.{◌≡◌, ◌⊎◌, ◌<◌, ◌∙◌, inl, inr, refl, subst, sym, ap, Ok, Bool, true, false, not, length, arith}
 use Rattle.pool_syntax.specs.Terms.{ProgramTree}
 use Rattle.pool_relation.specs.Configuration.{Configuration}
 use Rattle.pool_semantics.specs.PlainOf.{configuration_of}

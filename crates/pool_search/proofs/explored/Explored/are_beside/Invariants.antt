@@ -2,7 +2,6 @@ use Rattle.std.proofs.Common.{◌≡◌, ℕ, drop, true, false}
 use Rattle.std.specs.List.{filter}
 use Rattle.run_types.specs.Tables.{Each}
 use Rattle.pool_semantics.specs.PlainOf.{configuration_of, program_tree, is_spent}
-use Rattle.pool_search.specs.declared.choices.Trial.{Trial}
 use Rattle.pool_search.specs.declared.choices.Trial.TheVariants as T
 use Rattle.pool_search.specs.Entries.{entries, searched}
 use Rattle.pool_search.specs.Leads.{IsBeside, OneStaysOn}

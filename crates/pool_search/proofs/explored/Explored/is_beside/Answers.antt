@@ -1,5 +1,4 @@
 use Rattle.std.proofs.Common.{◌≡◌, ◌∙◌, ap, sym, false, Ok}
-use Rattle.run_types.specs.declared.types.Label.{Label}
 use Rattle.pool_semantics.specs.PlainOf.{configuration_of}
 use Rattle.search_laws.specs.Dead.{some_changes}
 use Rattle.pool_search.specs.Entries.{entries, searched}

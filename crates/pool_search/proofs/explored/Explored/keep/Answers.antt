@@ -1,4 +1,4 @@
-use Rattle.std.proofs.Common.{get_or, subst, sym, ap, ◌∙◌, ◌≡◌, [], Some, slice_get, arith}
+use Rattle.std.proofs.Common.{get_or, subst, sym, ◌≡◌, [], Some, slice_get, arith}
 use Rattle.pool_semantics.specs.PlainOf.{configuration_of}
 use Rattle.pool_search.specs.Courses.{course_of}
 use Rattle.pool_search.specs.Entries.{lists, searched}

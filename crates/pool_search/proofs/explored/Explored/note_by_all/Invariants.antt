@@ -1,17 +1,13 @@
-use Rattle.std.proofs.Common.{◌≡◌, false}
-use Rattle.pool_semantics.specs.PlainOf.{configuration_of, program_tree, is_spent}
+use Rattle.std.proofs.Common.{◌≡◌}
 use Rattle.pool_search.specs.Entries.{entries, searched}
 use Rattle.pool_search.specs.WaiterLists.{AreKnown}
 use Rattle.pool_search.proofs.explored.Explored.note_by_all.Given as goal
 
--- what is noted is so, and the stepper is at the entry
+-- what is noted is so
 abbrev pub invariant-loop-label : goal.invariant-loop-label
 invariant-loop-label l =
     record {
       same : entries l.self ≡ entries l.initial.self;
       program : searched l.self ≡ searched l.initial.self;
-      again : configuration_of l.plain ≡ configuration_of l.initial.plain;
-      same_program : program_tree l.plain ≡ program_tree l.initial.plain;
-      fresh : is_spent l.plain ≡ false;
       known : AreKnown (searched l.initial.self) (entries l.initial.self) l.waiters.list.items;
     }

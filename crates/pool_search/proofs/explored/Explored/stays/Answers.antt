@@ -1,4 +1,4 @@
-use Rattle.std.proofs.Common.{◌≡◌, ◌<◌, ◌∙◌, ap, length, Ok, arith}
+use Rattle.std.proofs.Common.{◌<◌, ◌∙◌, ap, length, Ok, arith}
 use Rattle.pool_search.specs.Entries.{entries, searched}
 use Rattle.pool_search.proofs.WaiterLaws.{one_more_stays}
 use Rattle.pool_search.proofs.explored.Explored.stays.Goals as goal

@@ -1,8 +1,8 @@
 use Rattle.std.proofs.Common.{◌≡◌, ap, subst, Some, Ok, true}
+use Rattle.std.specs.Prelude.{IfSome}
 use Rattle.std.specs.List.{filter}
 use Rattle.run_types.specs.declared.types.Label.{Label}
 use Rattle.run_types.specs.Tables.{Each}
-use Rattle.pool_syntax.specs.Terms.{ProgramTree}
 use Rattle.pool_relation.specs.Configuration.{Configuration}
 use Rattle.pool_relation.specs.Transition.{transition}
 use Rattle.pool_semantics.specs.PlainOf.{configuration_of}
@@ -28,8 +28,8 @@ returns-in-Ok-Led-clause-stays c = λ yes e g.
     let here = entry n c.requires.there.0 at in
     let sorted : IsInOrder at = each_at (λ (x : Passed). IsInOrder x.configuration) es c.args.at here c.requires.in_order c.requires.there.1 in
     let enough : (l : Label) (d : Configuration) → is_served b l ≡ true → transition p at l ≡ Some d → IsAwaited p n b at =
-    subst (λ (q : ProgramTree). (l : Label) (d : Configuration) → is_served b l ≡ true → transition q at l ≡ Some d → IsAwaited q n b at) c.requires.program
-    (c.may_choose.ensures c.if-not-may_choose.false sorted)
+    (subst (λ o. IfSome o (λ x. IsInOrder x.configuration → (l : Label) (d : Configuration) → is_served b l ≡ true → transition p x.configuration l ≡ Some d → IsAwaited p x.next b x.configuration))
+    c.requires.there.1 (c.is_only_awaited.ensures c.if-not-is_only_awaited.false)) sorted
     in
     let tried : is_tried c.in-Ok-Led.field-0 ≡ true = ap is_tried c.in-Ok-Led.field-0-is in
     stays_by_those p es ws c.args.object c.args.at n at e b c.in-Ok-Led.field-0-0 c.requires.there g enough

@@ -1,48 +1,48 @@
-use Rattle.std.proofs.Common.{◌≡◌, refl, ap, subst, sym, ◌∙◌, Some, None, Ok, Bool, true, false, not, slice_get}
+use Rattle.std.proofs.Common.{◌≡◌, ap, subst, Some, None, Ok, true, slice_get}
+use Rattle.std.proofs.lemmas.Result.{IfOk-weaker}
 use Rattle.std.specs.List.{filter}
 use Rattle.pool_syntax.specs.Terms.{ProgramTree}
-use Rattle.pool_semantics.specs.PlainOf.{configuration_of}
-use Rattle.reachability.specs.Labels.{labels_to_try}
 use Rattle.search_laws.specs.Outcomes.{Passed}
-use Rattle.search_laws.specs.Tried.{AllLeadInto}
+use Rattle.search_laws.specs.Tried.{AllLeadInto, IsExpanded}
 use Rattle.pool_search.specs.Courses.{course_of}
 use Rattle.pool_search.specs.Entries.{entries, searched}
-use Rattle.pool_search.specs.Progress.{Entries}
-use Rattle.pool_search.specs.Trials.{is_asked, is_tried}
-use Rattle.pool_search.proofs.EntryExpansion.{by_all, parts_of, still_there}
-use Rattle.pool_search.proofs.ListGrowth.{entry_grown}
+use Rattle.pool_search.specs.Trials.{is_asked, is_tried, CanMove}
+use Rattle.pool_search.proofs.EntryExpansion.{by_all, can_move, still_there}
 use Rattle.pool_search.proofs.explored.Explored.try_enough.Goals as goal
 
-twice : (b : Bool) → not (not b) ≡ true → b ≡ true
-twice true h = refl
-twice false h = absurd (let z : false ≡ true = h in cc)
-
-pub returns-in-Ok-Led-clause-expanded : goal.returns-in-Ok-Led-clause-expanded
-returns-in-Ok-Led-clause-expanded c = λ yes e g. c.in-Ok-Led.ensures.expanded c.in-Ok-Led.field-0-0 (ap Ok c.in-Ok-Led.field-0-is) e g
-
-pub try_labels-requires-clause-there : goal.try_labels-requires-clause-there
-try_labels-requires-clause-there c =
-    let tried : is_tried c.in-Ok-Tried.field-0 ≡ true = ap is_tried c.in-Ok-Tried.field-0-is in
-    let grows = c.in-Ok-Tried.ensures.grows tried in
-    still_there (entries c.args.self.now) (entries c.try_awaited.new.self) c.args.at c.args.next (configuration_of c.args.plain.now) (configuration_of c.try_awaited.new.plain) grows.added grows.is
-    (c.in-Ok-Tried.ensures.again tried) c.requires.there
-
-pub returns-clause-expanded : goal.returns-clause-expanded
-returns-clause-expanded c = λ yes e g.
+pub returns-in-Ok-Tried-clause-expanded : goal.returns-in-Ok-Tried-clause-expanded
+returns-in-Ok-Tried-clause-expanded c =
     let p = searched c.args.self.now in
+    let q = searched c.try_awaited.new.self in
     let k = course_of c.args.scope.keeps in
     let at = c.args.at in
     let old = entries c.args.self.now in
     let between = entries c.try_awaited.new.self in
     let es = entries c.try_labels.new.self in
     let labels = c.args.labels.now in
-    let before : is_tried c.in-Ok-Tried.field-0 ≡ true = ap is_tried c.in-Ok-Tried.field-0-is in
-    let grows = c.in-Ok-Tried.ensures.grows before in
-    let there : slice_get between at ≡ Some e = subst (λ (xs : Entries). slice_get xs at ≡ Some e) (sym grows.is) (entry_grown old grows.added at e g) in
-    let tried : is_tried c.in_ok-trial.trial ≡ true = twice (is_tried c.in_ok-trial.trial) (ap not (sym c.is_over.ensures) ∙ yes) in
+    let grows = c.in-Ok-Tried.ensures.grows (ap is_tried c.in-Ok-Tried.field-0-is) in
+    IfOk-weaker c.try_labels.result
+    (λ t. is_tried t ≡ true → (x : Passed) → slice_get between at ≡ Some x → AllLeadInto q k es x.next x.items x.configuration (filter (is_asked None) labels))
+    (λ t. is_tried t ≡ true → (x : Passed) → slice_get old at ≡ Some x → IsExpanded p k es at x.next x.items x.configuration)
+    (λ t h yes e g.
     let all : AllLeadInto p k es e.next e.items e.configuration (filter (is_asked None) labels) =
-    subst (λ (q : ProgramTree). AllLeadInto q k es e.next e.items e.configuration (filter (is_asked None) labels)) c.try_awaited.ensures.program (c.in_ok-trial.ensures.tried tried e there)
+    subst (λ (r : ProgramTree). AllLeadInto r k es e.next e.items e.configuration (filter (is_asked None) labels)) c.try_awaited.ensures.program
+    (h yes e (still_there p k c.args.scope.most old between at e grows g))
     in
-    let is = parts_of old at c.args.next (configuration_of c.args.plain.now) e g c.requires.there in
-    let same : labels ≡ labels_to_try p e.next e.configuration = c.requires.labels ∙ ap (λ (x : Passed). labels_to_try p x.next x.configuration) (sym is) in
-    by_all p k es at e (subst (λ ls. AllLeadInto p k es e.next e.items e.configuration (filter (is_asked None) ls)) same all)
+    by_all p k es at e (subst (λ ls. AllLeadInto p k es e.next e.items e.configuration (filter (is_asked None) ls)) (c.requires.labels e g) all)) c.try_labels.ensures.tried
+
+pub returns-in-Ok-Tried-clause-led : goal.returns-in-Ok-Tried-clause-led
+returns-in-Ok-Tried-clause-led c = λ i told e g.
+    let p = searched c.args.self.now in
+    let k = course_of c.args.scope.keeps in
+    let at = c.args.at in
+    let between = entries c.try_awaited.new.self in
+    let grows = c.in-Ok-Tried.ensures.grows (ap is_tried c.in-Ok-Tried.field-0-is) in
+    let on = c.try_labels.ensures.led i told e (still_there p k c.args.scope.most (entries c.args.self.now) between at e grows g) in
+    subst (λ (q : ProgramTree). CanMove q e.configuration) c.try_awaited.ensures.program (can_move (searched c.try_awaited.new.self) k (entries c.try_labels.new.self) at e None i on)
+
+pub returns-in-Ok-Led-clause-expanded : goal.returns-in-Ok-Led-clause-expanded
+returns-in-Ok-Led-clause-expanded c = λ yes e g. (c.in-Ok-Led.ensures.expanded c.in-Ok-Led.to (ap Ok c.in-Ok-Led.field-0-is) e g).0
+
+pub returns-in-Ok-Led-clause-led : goal.returns-in-Ok-Led-clause-led
+returns-in-Ok-Led-clause-led c = λ i told e g. (c.in-Ok-Led.ensures.expanded c.in-Ok-Led.to (ap Ok c.in-Ok-Led.field-0-is) e g).1

@@ -1,9 +1,7 @@
-use Rattle.std.proofs.Common.{◌≡◌, ℕ, Some, true, false, slice_get, take}
+use Rattle.std.proofs.Common.{◌≡◌, ℕ, Some, true, slice_get, take}
 use Rattle.std.specs.List.{filter}
-use Rattle.pool_semantics.specs.PlainOf.{configuration_of, program_tree, is_spent}
 use Rattle.search_laws.specs.Outcomes.{Passed}
 use Rattle.search_laws.specs.Tried.{AllLeadInto}
-use Rattle.pool_search.specs.declared.choices.Trial.{Trial}
 use Rattle.pool_search.specs.declared.choices.Trial.TheVariants as T
 use Rattle.pool_search.specs.Courses.{course_of}
 use Rattle.pool_search.specs.Entries.{entries, searched}
@@ -11,14 +9,11 @@ use Rattle.pool_search.specs.Progress.{Grows}
 use Rattle.pool_search.specs.Trials.{is_asked, is_tried, OneLeadsOn}
 use Rattle.pool_search.proofs.explored.Explored.try_labels.Given as goal
 
--- those of the labels before the place that are asked for were tried, and the stepper is at the entry
+-- those of the labels before the place that are asked for were tried
 abbrev pub invariant-loop-place : goal.invariant-loop-place
 invariant-loop-place l =
     record {
       program : searched l.self ≡ searched l.initial.self;
-      same_program : program_tree l.plain ≡ program_tree l.initial.plain;
-      fresh : is_spent l.plain ≡ false;
-      again : configuration_of l.plain ≡ configuration_of l.initial.plain;
       in_bounds : is_tried l.trial ≡ true;
       led : (i : ℕ) → l.trial ≡ T.Led i → (e : Passed) → slice_get (entries l.initial.self) l.at ≡ Some e
           → OneLeadsOn (searched l.initial.self) (course_of l.scope.keeps) (entries l.self) l.at e l.served i;

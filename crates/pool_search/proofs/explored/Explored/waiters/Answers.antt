@@ -1,6 +1,6 @@
-use Rattle.std.proofs.Common.{◌≡◌, ◌≤◌, sym, subst, ap, ℕ, length, Ok, false, arith}
-use Rattle.pool_syntax.specs.Terms.{ProgramTree}
-use Rattle.pool_semantics.specs.PlainOf.{configuration_of}
+use Rattle.std.proofs.Common.{◌≡◌, ◌≤◌, subst, ap, ℕ, length, Ok, false, slice_get, arith}
+use Rattle.std.specs.Prelude.{IfSome}
+use Rattle.search_laws.specs.Outcomes.{Passed}
 use Rattle.reachability.specs.Search.{WaitsAt}
 use Rattle.pool_search.specs.Entries.{entries, searched}
 use Rattle.pool_search.specs.WaiterLists.{HasWaiter}
@@ -13,18 +13,17 @@ loop-at-preserved c =
     let p = searched c.args.self.now in
     let es = entries c.args.self.now in
     let ws = l.waiters.list.items in
-    let vs = c.add.new.self.list.items in
-    let at = configuration_of c.in_ok-plain.plain in
-    let grown = c.in-Ok-true.ensures.grown in
+    let vs = c.add_waiters.new.waiters.list.items in
     let entry = c.in-Ok.entry in
     let number : entry ≡ l.at = omega (arith, c.in-Ok.ensures) in
-    let here : (o : ℕ) → WaitsAt p at o → HasWaiter false l.at o vs =
-    (λ o w. subst (λ (n : ℕ). HasWaiter false n o vs) number
-    (c.in-Ok-true.ensures.all (ap Ok c.in-Ok-true.field-0-test) o (subst (λ (q : ProgramTree). WaitsAt q at o) (sym c.in_ok-plain.ensures.program) w)))
+    let here : IfSome (slice_get es l.at) (λ (e : Passed). (o : ℕ) → WaitsAt p e.configuration o → HasWaiter false l.at o vs) =
+    subst (λ (n : ℕ). IfSome (slice_get es l.at) (λ (e : Passed). (o : ℕ) → WaitsAt p e.configuration o → HasWaiter false n o vs)) number
+    (c.in-Ok-true.ensures.all (ap Ok c.in-Ok-true.field-0-test))
     in
+    let grown = c.in-Ok-true.ensures.grown in
     record {
       none_noted = c.in-Ok-true.ensures.none_noted l.invariant.none_noted;
-      all = filled_more p es ws vs grown.0 l.at at l.invariant.all grown.1 c.in_ok-plain.ensures.configuration here;
+      all = filled_more p es ws vs grown.0 l.at l.invariant.all grown.1 here;
     }
 
 pub returns : goal.returns

@@ -1,19 +1,18 @@
-use Rattle.std.proofs.Common.{◌≡◌, ◌<◌, ◌-◌, ◌^◌, ◌++◌, ℕ, List, false}
+use Rattle.std.proofs.Common.{◌≡◌, ◌<◌, ◌++◌, ℕ, List, false}
 use Rattle.run_types.specs.Tables.{Each}
-use Rattle.pool_semantics.specs.PlainOf.{configuration_of, program_tree}
+use Rattle.pool_relation.specs.Configuration.{Configuration}
 use Rattle.reachability.specs.Search.{WaitsAt}
+use Rattle.object_moves.specs.Rows.{objects_from}
+use Rattle.object_moves.specs.Tables.{known_states, table_program}
 use Rattle.pool_search.specs.WaiterLists.{HasWaiter, IsOpen}
 use Rattle.pool_search.specs.declared.waiters.Waiter.{Waiter}
 use Rattle.pool_search.proofs.waiters.Waiters.add.Given as goal
 
 -- the objects that wait with a smaller name were added
-abbrev pub invariant-loop-waiting : goal.invariant-loop-waiting
-invariant-loop-waiting l =
+abbrev pub invariant-loop-i : goal.invariant-loop-i
+invariant-loop-i l =
     record {
       grown : (added : List Waiter) × (l.self.list.items ≡ l.initial.self.list.items ++ added);
       none_noted : Each IsOpen l.initial.self.list.items → Each IsOpen l.self.list.items;
-      all : (o : ℕ) → o < l.from → WaitsAt (program_tree l.plain) (configuration_of l.plain) o → HasWaiter false l.entry o l.self.list.items;
+      all : (c : Configuration) → c.objects ≡ objects_from 0 (known_states l.moves) l.numbers → (o : ℕ) → o < l.i → WaitsAt (table_program l.moves) c o → HasWaiter false l.entry o l.self.list.items;
     }
-
-abbrev pub decreases-loop-waiting : goal.decreases-loop-waiting
-decreases-loop-waiting l = 2 ^ 32 - l.from

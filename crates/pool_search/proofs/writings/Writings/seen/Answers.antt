@@ -1,9 +1,8 @@
-use Rattle.std.proofs.Common.{◌≡◌, ◌∷◌, ◌++◌, ◌<◌, List, [], suc, refl, subst, sym, ap, ◌∙◌, Some, get_or, length, arith}
+use Rattle.std.proofs.Common.{◌≡◌, ◌∷◌, ◌++◌, List, [], suc, refl, subst, ap, ◌∙◌, Some, get_or, length, arith}
 use Rattle.std.proofs.lemmas.Option.{slice_get_read}
 use Rattle.std.specs.List.{slice_get}
 use Rattle.run_types.specs.declared.types.Item.{Item}
 use Rattle.pool_search.specs.declared.writings.Node.{Node}
-use Rattle.pool_search.specs.WrittenLists.{with_nodes}
 use Rattle.pool_search.specs.WritingsOf.{lists_of}
 use Rattle.pool_search.proofs.WrittenListsGrowth.{at_seen, number_within}
 use Rattle.pool_search.proofs.writings.Writings.seen.Goals as goal

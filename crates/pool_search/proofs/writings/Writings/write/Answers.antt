@@ -1,6 +1,4 @@
-use Rattle.std.proofs.Common.{◌≡◌, ◌∷◌, ◌++◌, ◌<◌, [], sym, subst, ap, ◌∙◌, get_or, length, arith}
-use Rattle.pool_search.specs.WrittenLists.{with_nodes}
-use Rattle.pool_search.specs.WritingsOf.{lists_of}
+use Rattle.std.proofs.Common.{arith}
 use Rattle.pool_search.proofs.WrittenListsGrowth.{grown_by_one, number_of_one}
 use Rattle.pool_search.proofs.writings.Writings.write.Goals as goal
 

@@ -1,0 +1,65 @@
+use Rattle.std.proofs.Common.{◌≡◌, ◌<◌, ℕ, sym, ap, subst, ◌∙◌, length, slice_get, [], ◌∷◌, Some, None, arith}
+use Rattle.std.specs.Option.{IfSome}
+use Rattle.std.proofs.lemmas.List.Elements.{All-head, All-tail}
+use Rattle.std.proofs.lemmas.Option.{get_or_from_slice_get, slice_get_within}
+use Rattle.run_types.specs.declared.types.Label.TheVariants as L
+use Rattle.pool_syntax.specs.TreeOf.{program_of}
+use Rattle.search_states.specs.States.{states}
+use Rattle.object_moves.specs.Effects.{effect_new}
+use Rattle.object_moves.specs.Known.{numbers_of_two, state_at, two_of}
+use Rattle.object_moves.specs.Rows.{AreWithin, row}
+use Rattle.object_moves.specs.declared.known.Two.TheVariants as W
+use Rattle.object_moves.proofs.KnownFacts.{read_at}
+use Rattle.object_moves.proofs.RowNew.{more_within, new_impossible, new_leads}
+use Rattle.object_moves.proofs.table.MoveTable.make_new.Goals as goal
+
+pub returns-in-Ok-Some-Impossible-clause-impossible : goal.returns-in-Ok-Some-Impossible-clause-impossible
+returns-in-Ok-Some-Impossible-clause-impossible c = λ ms _.
+    let p = program_of c.args.self.now.program.now in
+    let xs = states c.args.self.now.table in
+    let ys = states c.new.new.self.table in
+    let ns = c.args.numbers.now.items in
+    let o = c.args.object in
+    let q = c.args.name in
+    let s = c.in-Some.state.now in
+    let e = L.New o q c.args.class in
+    let l = c.in-Some.ensures.lookup in
+    let next : q ≡ length ns = omega (arith, c.if-name-len.false, c.len.ensures, c.args.numbers.now.ok.0) in
+    let there : slice_get ns o ≡ Some s = read_at c.as_slice.result.now ns o s c.as_slice.ensures.value l.3.0 l.1 in
+    let told = c.in-Ok-Some-Impossible in
+    let is : effect_new p e (state_at xs s) ≡ None = subst (λ r. IfSome r (λ m. effect_new p e (state_at xs s) ≡ two_of ys m)) (told.field-0-is ∙ ap Some told.field-0-0-is) told.ensures.is in
+    new_impossible p xs ns ms o c.args.class (slice_get_within ns o s there) q next (ap (λ n. effect_new p e (state_at xs n)) (get_or_from_slice_get ns o s 0 there) ∙ is)
+
+pub returns-in_ok-push-in-Ok-Some-To-clause-within : goal.returns-in_ok-push-in-Ok-Some-To-clause-within
+returns-in_ok-push-in-Ok-Some-To-clause-within c =
+    let xs = states c.args.self.now.table in
+    let ys = states c.new.new.self.table in
+    let told = c.in-Ok-Some-To in
+    let n = told.maker in
+    let m = told.new in
+    let within : AreWithin ys (numbers_of_two (W.To n m)) = subst (λ r. IfSome r (λ m. AreWithin ys (numbers_of_two m))) (told.field-0-is ∙ ap Some told.field-0-0-is) told.ensures.within in
+    let P : ℕ → Type 0 = λ k. k < length ys in
+    subst (AreWithin ys) (sym c.in_ok-push-in-Ok-Some-To.ensures.items)
+    (more_within xs ys c.args.numbers.now.items c.args.object n m told.ensures.grows c.requires.within (All-head P n (m ∷ []) within) (All-head P m [] (All-tail P n (m ∷ []) within)))
+
+pub returns-in_ok-push-in-Ok-Some-To-clause-made : goal.returns-in_ok-push-in-Ok-Some-To-clause-made
+returns-in_ok-push-in-Ok-Some-To-clause-made c = λ ms _.
+    let p = program_of c.args.self.now.program.now in
+    let xs = states c.args.self.now.table in
+    let ys = states c.new.new.self.table in
+    let ns = c.args.numbers.now.items in
+    let o = c.args.object in
+    let q = c.args.name in
+    let s = c.in-Some.state.now in
+    let e = L.New o q c.args.class in
+    let l = c.in-Some.ensures.lookup in
+    let next : q ≡ length ns = omega (arith, c.if-name-len.false, c.len.ensures, c.args.numbers.now.ok.0) in
+    let there : slice_get ns o ≡ Some s = read_at c.as_slice.result.now ns o s c.as_slice.ensures.value l.3.0 l.1 in
+    let told = c.in-Ok-Some-To in
+    let n = told.maker in
+    let m = told.new in
+    let is : effect_new p e (state_at xs s) ≡ Some (state_at ys n, state_at ys m) =
+    subst (λ r. IfSome r (λ m. effect_new p e (state_at xs s) ≡ two_of ys m)) (told.field-0-is ∙ ap Some told.field-0-0-is) told.ensures.is
+    in
+    new_leads p xs ns ms o c.args.class (slice_get_within ns o s there) q next ys n m told.ensures.grows c.requires.within (ap (λ n. effect_new p e (state_at xs n)) (get_or_from_slice_get ns o s 0 there) ∙ is)
+    ∙ ap (λ ks. Some (row ys ks ms)) (sym c.in_ok-push-in-Ok-Some-To.ensures.items)
