@@ -14,20 +14,26 @@ ghost use Rattle.command_shell.specs.Writing.{writing};
 ghost use Rattle.explore_driver.specs.Ends.{Ends, IsServable, files_of, inputs};
 ghost use Rattle.explore_driver.specs.Words.{Request, request_of, texts_of};
 
+mod progress_line;
+
 use command_shell::Status;
 use explore_driver::explore;
 use pool_outside::{Files, Sink, StdFiles, StdSink, args_after_program_name};
+use pool_search::Progress;
+use progress_line::{Clearing, ProgressLine};
 use std::alloc::Global;
+use std::cell::Cell;
 use std::env;
 use std::process::ExitCode;
 
 /// Runs the command of these arguments. Returns the exit status of the process.
-fn run<F: Files, K: Sink, E: Sink>(
+fn run<F: Files, K: Sink, E: Sink, P: Progress>(
     alloc: Global,
     words: &[String],
     files: &mut F,
     out: &mut K,
     err: &mut E,
+    progress: &mut P,
 ) -> ExitCode
     requires not_live { F.live files.old ≡ false }
     requires countable { F.opens files.old ≤ 2 ^ 64 - 5 }
@@ -52,7 +58,7 @@ fn run<F: Files, K: Sink, E: Sink>(
         → ¬ (Rose (F.faults files.old) (F.faults files.new)) → ¬ (Rose (K.faults out.old) (K.faults out.new)) → ¬ (Rose (E.faults err.old) (E.faults err.new))
         → ((status : Status) × WholeTextWritten status × (exit_status result ≡ code_of status)) ⊎ (exit_status result ≡ 7) }
 {
-    ExitCode::from(explore(alloc, words, files, out, err).code())
+    ExitCode::from(explore(alloc, words, files, out, err, progress).code())
 }
 
 fn main(rt: HostRuntime) -> ExitCode {
@@ -60,8 +66,12 @@ fn main(rt: HostRuntime) -> ExitCode {
     let Ok(words) = args_after_program_name(alloc, env::args(&rt)) else {
         return ExitCode::from(Status::Memory.code());
     };
-    let mut out = StdSink::make(rt.stdout());
-    let mut err = StdSink::make(rt.stderr());
+    let is_shown = Cell::new(false);
+    let mut progress = ProgressLine::make(alloc, rt, rt.stderr(), &is_shown);
+    let mut out = Clearing::make(StdSink::make(rt.stdout()), rt.stderr(), &is_shown);
+    let mut err = Clearing::make(StdSink::make(rt.stderr()), rt.stderr(), &is_shown);
     let mut files = StdFiles::make(rt);
-    run(alloc, &words, &mut files, &mut out, &mut err)
+    let status = run(alloc, &words, &mut files, &mut out, &mut err, &mut progress);
+    progress.finish();
+    status
 }

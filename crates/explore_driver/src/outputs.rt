@@ -21,6 +21,7 @@ use command_inputs::{
 use command_shell::{Status, status_of_verdict};
 use label_text::push_line;
 use pool_outside::Files;
+use pool_search::Progress;
 use record_check::theorems::a_record_has_one_verdict;
 use record_fill::fill_record;
 use run_record::theorems::what_is_read_is_readable;
@@ -48,11 +49,12 @@ fn status_of_found(found: Found) -> Status
 }
 
 /// Reads a program, and searches its runs. Returns the answer as the output, or the input error.
-fn search_output<F: Files>(
+fn search_output<F: Files, P: Progress>(
     alloc: Global,
     files: &mut F,
     question: &Question<'_>,
     name: &str,
+    progress: &mut P,
 ) -> Result<Output, InputError>
     requires countable { F.opens files.old ≤ 2 ^ 64 - 5 }
     requires allowed { MayOpen (F.may files.old) (F.opens files.old) (inputs (of_search (inquiry question.now) name.now)) }
@@ -67,7 +69,7 @@ fn search_output<F: Files>(
         Ok(checked) => checked,
         Err(stop) => return Err(stop),
     };
-    match answer_of(alloc, &checked, &parsed.names, question) {
+    match answer_of(alloc, &checked, &parsed.names, question, progress) {
         Ok(answer) => Ok(Output {
             status: status_of_found(answer.found),
             text: answer.text,
@@ -195,10 +197,11 @@ fn fill_output<F: Files>(
 
 /// Makes the output of a command. Reports the first input that is not accepted, a failed read, or out of memory.
 /// Requires that each input of the command may be opened.
-pub fn make_output<F: Files>(
+pub fn make_output<F: Files, P: Progress>(
     alloc: Global,
     files: &mut F,
     asked: &Asked<'_>,
+    progress: &mut P,
 ) -> Result<Output, InputError>
     requires sized { IsSized asked.now }
     requires countable { F.opens files.old ≤ 2 ^ 64 - 5 }
@@ -207,7 +210,7 @@ pub fn make_output<F: Files>(
     ensures unread_within { StaysWithin (reading F.told F.opens F.given F.live F.faults files.old files.new) (inputs (request asked.now)) }
 {
     match asked {
-        Asked::Search { question, name } => search_output(alloc, files, question, name),
+        Asked::Search { question, name } => search_output(alloc, files, question, name, progress),
         Asked::Watch {
             shown,
             program,

@@ -14,6 +14,7 @@ use crate::outputs::make_output;
 use crate::words::{Asked, Command, read_words};
 use command_shell::{Status, say, say_stop};
 use pool_outside::{Files, Sink};
+use pool_search::Progress;
 use std::alloc::Global;
 
 /// The usage line.
@@ -21,12 +22,13 @@ const USAGE: &[u8] =
     b"usage: explore search [stuck|fault] [all] P N, explore search writes P N, explore search run J P N, explore grade P N [OUTPUT].., explore watch P R [A B], explore waits|fill P R, explore follow P [R]\n";
 
 /// Makes the output of a command, and writes it, or the line of an error.
-fn make<F: Files, K: Sink, E: Sink>(
+fn make<F: Files, K: Sink, E: Sink, P: Progress>(
     alloc: Global,
     asked: &Asked<'_>,
     files: &mut F,
     out: &mut K,
     err: &mut E,
+    progress: &mut P,
 ) -> Status
     requires sized { IsSized asked.now }
     requires countable { F.opens files.old ≤ 2 ^ 64 - 5 }
@@ -41,19 +43,20 @@ fn make<F: Files, K: Sink, E: Sink>(
         → ¬ (Rose (F.faults files.old) (F.faults files.new)) → ¬ (Rose (K.faults out.old) (K.faults out.new)) → ¬ (Rose (E.faults err.old) (E.faults err.new))
         → WholeTextWritten result ⊎ (result ≡ Status.Memory) }
 {
-    match make_output(alloc, files, asked) {
+    match make_output(alloc, files, asked, progress) {
         Ok(output) => say(out, &output.text, output.status),
         Err(stop) => say_stop(alloc, err, stop),
     }
 }
 
 /// Runs one command.
-fn serve<F: Files, K: Sink, E: Sink>(
+fn serve<F: Files, K: Sink, E: Sink, P: Progress>(
     alloc: Global,
     command: &Command<'_>,
     files: &mut F,
     out: &mut K,
     err: &mut E,
+    progress: &mut P,
 ) -> Status
     requires sized { IsSizedCommand command.now }
     requires countable { F.opens files.old ≤ 2 ^ 64 - 5 }
@@ -69,21 +72,23 @@ fn serve<F: Files, K: Sink, E: Sink>(
         → WholeTextWritten result ⊎ (result ≡ Status.Memory) }
 {
     match command {
-        Command::Make(asked) => make(alloc, asked, files, out, err),
+        Command::Make(asked) => make(alloc, asked, files, out, err, progress),
         Command::Follow { program, stream } => follow(alloc, files, program, stream, out, err),
     }
 }
 
 /// Runs one command. `words` are the arguments without the program's name.
 /// `files` are the files that the command may read. The output goes to `out`, and a line for an error goes to `err`.
+/// `progress` is told how far a search is.
 /// Requires that no file is open, that fewer than 2^64 - 4 were
 /// opened before, and that each file of the command may be opened.
-pub fn explore<F: Files, K: Sink, E: Sink>(
+pub fn explore<F: Files, K: Sink, E: Sink, P: Progress>(
     alloc: Global,
     words: &[String],
     files: &mut F,
     out: &mut K,
     err: &mut E,
+    progress: &mut P,
 ) -> Status
     requires not_live { F.live files.old ≡ false }
     requires countable { F.opens files.old ≤ 2 ^ 64 - 5 }
@@ -110,7 +115,7 @@ pub fn explore<F: Files, K: Sink, E: Sink>(
         → WholeTextWritten result ⊎ (result ≡ Status.Memory) }
 {
     match read_words(words) {
-        Some(command) => serve(alloc, &command, files, out, err),
+        Some(command) => serve(alloc, &command, files, out, err, progress),
         None => say(err, USAGE, Status::Usage),
     }
 }

@@ -16,6 +16,7 @@ ghost use Rattle.pool_search.specs.Progress.{AllInOrder, AllReached, Grows, IsRe
 use crate::choices::{Trial, is_again, is_asked, later, serves_some};
 use crate::classifier::{Classification, judge};
 use crate::hints::{Hints, has_bit};
+use crate::progress::Progress;
 use crate::queries::Query;
 use crate::scope::{Keeps, Scope};
 use crate::settling::settle;
@@ -501,7 +502,12 @@ impl<'a> Explored<'a> {
 
     /// Visits the entries in order, and then those that were added meanwhile. This is breadth-first.
     /// Requires at most `most` entries, the start among them. An error means out of memory.
-    pub fn look(&mut self, alloc: Global, question: &Query) -> Result<RunEnd, AllocError>
+    pub fn look<P: Progress>(
+        &mut self,
+        alloc: Global,
+        question: &Query,
+        progress: &mut P,
+    ) -> Result<RunEnd, AllocError>
         requires begun { IsSearchedTo (searched self.old) states_only (IsPassedOver (searched self.old) question.now) (entries self.old) 0 }
         requires within { length (entries self.old) ≤ question.now.most }
         ensures program { searched self.new ≡ searched self.old }
@@ -511,6 +517,7 @@ impl<'a> Explored<'a> {
         let mut hints = Hints::make(alloc);
         let mut at = 0;
         while (at as usize) < self.kept.len() {
+            progress.note(self.count(question.most), at);
             match self.visit(alloc, &mut hints, at, question) {
                 Ok(Visit::Done) => at += 1,
                 Ok(Visit::Shown) => return Ok(RunEnd::Shown(at)),

@@ -19,6 +19,7 @@ mod labelling;
 mod made;
 mod numbered;
 mod outcomes;
+mod progress;
 mod queries;
 mod restored;
 mod retracing;
@@ -30,6 +31,7 @@ mod waiters;
 mod writings;
 
 pub use outcomes::{EndKind, Outcome, OutcomeRun, Outcomes, all_outcomes, outcome_run};
+pub use progress::{Progress, Silent};
 pub use queries::{Query, SearchResult, Target};
 pub use searching::search;
 pub use visited::{Entry, VisitedSet};

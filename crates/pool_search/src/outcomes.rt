@@ -17,6 +17,7 @@ use crate::choices::Trial;
 use crate::ends::{Ends, kind_of, written_by};
 use crate::explored::Explored;
 use crate::hints::Hints;
+use crate::progress::Progress;
 use crate::retracing::{retrace, way_to};
 use crate::scope::{Keeps, Scope};
 use crate::searching::begin;
@@ -128,11 +129,12 @@ fn visit(
 
 /// Visits the entries in order, and then those that were added meanwhile. Whether all were visited: `false` if a bound
 /// is met. An error means out of memory.
-fn visit_all(
+fn visit_all<P: Progress>(
     alloc: Global,
     explored: &mut Explored<'_>,
     most: u32,
     ends: &mut Ends,
+    progress: &mut P,
 ) -> Result<bool, AllocError>
     requires begun { IsSearchedTo (searched explored.old) with_writes (IsNoted (searched explored.old) ends.old.list.items) (entries explored.old) 0 }
     requires within { length (entries explored.old) ≤ most }
@@ -145,6 +147,7 @@ fn visit_all(
     let mut hints = Hints::make(alloc);
     let mut at = 0;
     while (at as usize) < explored.kept.len() {
+        progress.note(explored.count(most), at);
         match visit(alloc, explored, &mut hints, at, most, ends) {
             Ok(true) => at += 1,
             Ok(false) => return Ok(false),
@@ -158,7 +161,12 @@ fn visit_all(
 /// The search is breadth-first, so the outcomes come in the order of the fewest kept configurations.
 /// The list is not complete if more than `most` configurations would be kept,
 /// if 1,000,000 transitions that need no choice follow one another, or if no number of 32 bits is left.
-pub fn all_outcomes(alloc: Global, program: &Checked<'_>, most: u32) -> Result<Outcomes, AllocError>
+pub fn all_outcomes<P: Progress>(
+    alloc: Global,
+    program: &Checked<'_>,
+    most: u32,
+    progress: &mut P,
+) -> Result<Outcomes, AllocError>
     ensures shown { IfOk result (λ r. Each (IsShown (program_of program.now.program.now)) r.list.items) }
     ensures all { IfOk result (λ r. r.whole ≡ true → HasAllOutcomes (program_of program.now.program.now) r.list.items) }
     ensures within { IfOk result (λ r. r.kept ≤ most) }
@@ -171,7 +179,7 @@ pub fn all_outcomes(alloc: Global, program: &Checked<'_>, most: u32) -> Result<O
             kept: 0,
         });
     };
-    let whole = visit_all(alloc, &mut explored, most, &mut ends)?;
+    let whole = visit_all(alloc, &mut explored, most, &mut ends, progress)?;
     Ok(Outcomes {
         list: ends.list,
         whole,
@@ -208,11 +216,12 @@ fn show_run(
 
 /// A run with the outcome at this place in the list that `all_outcomes` gives, counted from 0. An error means out of
 /// memory.
-pub fn outcome_run(
+pub fn outcome_run<P: Progress>(
     alloc: Global,
     program: &Checked<'_>,
     most: u32,
     place: u32,
+    progress: &mut P,
 ) -> Result<OutcomeRun, AllocError>
     ensures shown { IfOk result (λ r. (o : OneOutcome) (ls : Vec Label Global) → r ≡ OutcomeRun.Shown o ls → IsRunOf (program_of program.now.program.now) o ls.items) }
     ensures finite { IfOk result (λ r. (k : ℕ) → r ≡ OutcomeRun.Finite k → (os : List OneOutcome) × HasAllOutcomes (program_of program.now.program.now) os × (length os ≤ place)) }
@@ -222,7 +231,7 @@ pub fn outcome_run(
     let Some(mut explored) = begin(alloc, program, scope_of(most))? else {
         return Ok(OutcomeRun::Over(0));
     };
-    let whole = visit_all(alloc, &mut explored, most, &mut ends)?;
+    let whole = visit_all(alloc, &mut explored, most, &mut ends, progress)?;
     let kept = explored.count(most);
     if ends.list.len() <= place as usize {
         return Ok(if whole {

@@ -14,6 +14,7 @@ ghost use Rattle.pool_search.specs.declared.queries.Query.{Query};
 
 use crate::changes::next_after;
 use crate::explored::{Explored, Origin, RunEnd};
+use crate::progress::Progress;
 use crate::queries::{Query, SearchResult, Target};
 use crate::retracing::{retrace, show, way_to};
 use crate::scope::{Keeps, Scope};
@@ -120,18 +121,19 @@ fn whole_answer<'a>(
 }
 
 /// The result of a search that has kept its start. An error means out of memory.
-fn answer<'a>(
+fn answer<'a, P: Progress>(
     alloc: Global,
     program: &Checked<'a>,
     explored: &mut Explored<'a>,
     question: &Query,
+    progress: &mut P,
 ) -> Result<SearchResult, AllocError>
     requires program { searched explored.old ≡ program_of program.now.program.now }
     requires begun { IsSearchedTo (searched explored.old) states_only (IsPassedOver (searched explored.old) question.now) (entries explored.old) 0 }
     requires within { length (entries explored.old) ≤ question.now.most }
     ensures { IfOk result (λ f. IsAnswer (program_of program.now.program.now) question.now f) }
 {
-    let at = match explored.look(alloc, question)? {
+    let at = match explored.look(alloc, question, progress)? {
         RunEnd::Whole => return whole_answer(alloc, program, explored, question),
         RunEnd::Over => return Ok(SearchResult::Over(explored.count(question.most))),
         RunEnd::Shown(at) => at,
@@ -150,10 +152,11 @@ fn answer<'a>(
 /// The result is `Over` if more than `most` configurations would be kept,
 /// or if 1,000,000 transitions that need no choice follow one another.
 /// It is also `Over` if no number of 32 bits is left for an object or for the state of an object.
-pub fn search(
+pub fn search<P: Progress>(
     alloc: Global,
     program: &Checked<'_>,
     question: &Query,
+    progress: &mut P,
 ) -> Result<SearchResult, AllocError>
     ensures stuck { (ls : Vec Label Global) → result ≡ Ok (SearchResult.Stuck ls)
         → LeadsInOrder (program_of program.now.program.now) ls.items (IsWantedEnd (program_of program.now.program.now) question.now) }
@@ -170,5 +173,5 @@ pub fn search(
     let Some(mut explored) = begin(alloc, program, scope)? else {
         return Ok(SearchResult::Over(0));
     };
-    answer(alloc, program, &mut explored, question)
+    answer(alloc, program, &mut explored, question, progress)
 }

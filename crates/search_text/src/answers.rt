@@ -13,7 +13,9 @@ use crate::chosen::rows_of;
 use crate::grading::{first_wrong, is_allowed};
 use crate::shown::replay;
 use class_check::Checked;
-use pool_search::{OutcomeRun, Outcomes, Query, SearchResult, all_outcomes, outcome_run, search};
+use pool_search::{
+    OutcomeRun, Outcomes, Progress, Query, SearchResult, all_outcomes, outcome_run, search,
+};
 use run_types::{Label, Names};
 use std::alloc::{AllocError, Global};
 use waiting_objects::waiting_rows;
@@ -97,15 +99,16 @@ fn dead_answer(
 }
 
 /// The answer to the question for a run of some kind. An error means out of memory.
-fn sought_answer(
+fn sought_answer<P: Progress>(
     alloc: Global,
     program: &Checked<'_>,
     names: &Names,
     question: &Query,
+    progress: &mut P,
 ) -> Result<Answer, AllocError>
     ensures { IfOk result (λ a. Answers names.now (program_of program.now.program.now) question.now a.text.items a.found) }
 {
-    match search(alloc, program, question) {
+    match search(alloc, program, question, progress) {
         Ok(SearchResult::Stuck(labels)) => stuck_answer(alloc, program, names, question, &labels),
         Ok(
             SearchResult::Dead {
@@ -153,29 +156,31 @@ fn listed_answer(
 }
 
 /// The answer to the question for all outcomes. An error means out of memory.
-fn outcomes_answer(
+fn outcomes_answer<P: Progress>(
     alloc: Global,
     program: &Checked<'_>,
     names: &Names,
     most: u32,
+    progress: &mut P,
 ) -> Result<Answer, AllocError>
     ensures { IfOk result (λ a. TellsOutcomes names.now (program_of program.now.program.now) most a.text.items a.found) }
 {
-    let told = all_outcomes(alloc, program, most)?;
+    let told = all_outcomes(alloc, program, most, progress)?;
     listed_answer(alloc, names, &told, told.whole)
 }
 
 /// The answer to the question for a run with the outcome at this place, counted from 1. An error means out of memory.
-fn run_answer(
+fn run_answer<P: Progress>(
     alloc: Global,
     program: &Checked<'_>,
     names: &Names,
     place: u32,
     most: u32,
+    progress: &mut P,
 ) -> Result<Answer, AllocError>
     ensures { IfOk result (λ a. ShowsRun names.now (program_of program.now.program.now) place most a.text.items a.found) }
 {
-    match outcome_run(alloc, program, most, place.saturating_sub(1))? {
+    match outcome_run(alloc, program, most, place.saturating_sub(1), progress)? {
         OutcomeRun::Shown { outcome, labels } => Ok(Answer {
             text: run_text(alloc, names, outcome.kind, &labels)?,
             found: Found::Run,
@@ -193,20 +198,23 @@ fn run_answer(
 
 /// The answer to the question whether each run that comes to its end has an outcome that is allowed. An error means out
 /// of memory.
-fn graded_answer(
+fn graded_answer<P: Progress>(
     alloc: Global,
     program: &Checked<'_>,
     names: &Names,
     allowed: &[String],
     most: u32,
+    progress: &mut P,
 ) -> Result<Answer, AllocError>
     ensures { IfOk result (λ a. Grades names.now (program_of program.now.program.now) (map string_bytes allowed.now) most a.text.items a.found) }
 {
-    let told = all_outcomes(alloc, program, most)?;
+    let told = all_outcomes(alloc, program, most, progress)?;
     let Some(place) = first_wrong(alloc, names, allowed, &told.list)? else {
         return listed_answer(alloc, names, &told, told.whole);
     };
-    if let OutcomeRun::Shown { outcome, labels } = outcome_run(alloc, program, most, place)? {
+    if let OutcomeRun::Shown { outcome, labels } = outcome_run(
+        alloc, program, most, place, progress,
+    )? {
         if !is_allowed(alloc, names, allowed, &outcome)? {
             return Ok(Answer {
                 text: wrong_text(alloc, names, &outcome, &labels)?,
@@ -218,18 +226,21 @@ fn graded_answer(
 }
 
 /// Searches the program, and returns the answer. An error means out of memory.
-pub fn answer_of(
+pub fn answer_of<P: Progress>(
     alloc: Global,
     program: &Checked<'_>,
     names: &Names,
     question: &Question<'_>,
+    progress: &mut P,
 ) -> Result<Answer, AllocError>
     ensures { IfOk result (λ a. IsAnswerTo names.now (program_of program.now.program.now) (inquiry question.now) a.text.items a.found) }
 {
     match question {
-        Question::Sought(query) => sought_answer(alloc, program, names, query),
-        Question::Outcomes { most } => outcomes_answer(alloc, program, names, *most),
-        Question::Run { place, most } => run_answer(alloc, program, names, *place, *most),
-        Question::Graded { allowed, most } => graded_answer(alloc, program, names, allowed, *most),
+        Question::Sought(query) => sought_answer(alloc, program, names, query, progress),
+        Question::Outcomes { most } => outcomes_answer(alloc, program, names, *most, progress),
+        Question::Run { place, most } => run_answer(alloc, program, names, *place, *most, progress),
+        Question::Graded { allowed, most } => graded_answer(
+            alloc, program, names, allowed, *most, progress,
+        ),
     }
 }

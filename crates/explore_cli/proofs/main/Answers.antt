@@ -9,5 +9,5 @@ all_open : (may : ℕ → List ℕ → Bool) (opens : ℕ) → ((n : ℕ) (name 
 all_open may opens each None = tt
 all_open may opens each (Some r) = λ place input name at. each (opens + place) name
 
-pub run-requires-clause-allowed : goal.run-requires-clause-allowed
-run-requires-clause-allowed c = all_open (λ n name. true) c.make-files.result.opens (λ n name. refl) (request_of (texts_of c.deref.result.now))
+pub run-status-requires-clause-allowed : goal.run-status-requires-clause-allowed
+run-status-requires-clause-allowed c = all_open (λ n name. true) c.make-files.result.opens (λ n name. refl) (request_of (texts_of c.deref.result.now))

@@ -13,7 +13,7 @@ use Rattle.pool_search.proofs.SearchComplete.{searched_begun}
 use Rattle.pool_search.proofs.outcomes.all_outcomes.Goals as goal
 
 pub returns-clause-all : goal.returns-clause-all
-returns-clause-all c =
+returns-clause-all g c =
     let program = c.args.program.now.program.now in
     let p = program_of program in
     let es = entries c.visit_all.new.explored in
@@ -28,7 +28,7 @@ returns-clause-all c =
 
 -- no entry was visited yet
 pub visit_all-requires-clause-begun : goal.visit_all-requires-clause-begun
-visit_all-requires-clause-begun c =
+visit_all-requires-clause-begun g c =
     let e = c.in-Some.explored in
     let k = course_of c.scope_of.result.keeps in
     let begun : IsSearchedTo (searched e) k (λ _. Unit {0}) (entries e) 0 =

@@ -16,7 +16,7 @@ use Rattle.pool_search.proofs.outcomes.outcome_run.Goals as goal
 use Rattle.pool_search.proofs.outcomes.outcome_run.Goals.{then-whole, else-whole}
 
 pub returns-then-len-place-clause-finite : goal.returns-then-len-place-clause-finite
-returns-then-len-place-clause-finite c =
+returns-then-len-place-clause-finite g c =
     let program = c.args.program.now.program.now in
     let p = program_of program in
     let es = entries c.visit_all.new.explored in
@@ -42,14 +42,14 @@ within r n k most len is (inr a) (inl b) = absurd (cc)
 within r n k most len is (inr a) (inr b) = let same : n ≡ k = cc in omega (arith, is, same)
 
 pub returns-then-len-place-clause-shown : goal.returns-then-len-place-clause-shown
-returns-then-len-place-clause-shown c = λ o ls e.
+returns-then-len-place-clause-shown g c = λ o ls e.
     elim c.if-whole.branch [
       | then-whole w ↦ absurd (let z : R.Finite c.count-kept.result ≡ R.Shown o ls = sym w.result-is ∙ e in cc)
       | else-whole w ↦ absurd (let z : R.Over c.count-kept.result ≡ R.Shown o ls = sym w.result-is ∙ e in cc)
     ]
 
 pub returns-then-len-place-clause-within : goal.returns-then-len-place-clause-within
-returns-then-len-place-clause-within c = λ k told.
+returns-then-len-place-clause-within g c = λ k told.
     let len = length (entries c.visit_all.new.explored) in
     elim c.if-whole.branch [
       | then-whole w ↦ within c.if-whole.result c.count-kept.result k c.args.most len c.count-kept.ensures (inl w.result-is) told
@@ -57,11 +57,11 @@ returns-then-len-place-clause-within c = λ k told.
     ]
 
 pub returns-in_default-get-clause-within : goal.returns-in_default-get-clause-within
-returns-in_default-get-clause-within c = λ k told.
+returns-in_default-get-clause-within g c = λ k told.
     within (R.Over c.count-kept.result) c.count-kept.result k c.args.most (length (entries c.visit_all.new.explored)) c.count-kept.ensures (inr refl) told
 
 pub returns-clause-within : goal.returns-clause-within
-returns-clause-within c = λ k told.
+returns-clause-within g c = λ k told.
     within (R.Over c.count-kept.result) c.count-kept.result k c.args.most (length (entries c.visit_all.new.explored)) c.count-kept.ensures (inr refl) told
 
 -- a shown run is no other result
@@ -70,13 +70,13 @@ no_run p r k h (inl e) = subst (IsShownRun p) e h
 no_run p r k h (inr e) = subst (IsShownRun p) e h
 
 pub returns-in-Some-2-clause-within : goal.returns-in-Some-2-clause-within
-returns-in-Some-2-clause-within c = λ k told.
+returns-in-Some-2-clause-within g c = λ k told.
     let p = program_of c.args.program.now.program.now in
     absurd (no_run p c.in-Some-2.run' k (subst (λ o. IfSome o (IsShownRun p)) c.in-Some-2.is c.in_ok-run.ensures) told)
 
 -- no entry was visited yet
 pub visit_all-requires-clause-begun : goal.visit_all-requires-clause-begun
-visit_all-requires-clause-begun c =
+visit_all-requires-clause-begun g c =
     let e = c.in-Some.explored in
     let k = course_of c.scope_of.result.keeps in
     let begun : IsSearchedTo (searched e) k (λ _. Unit {0}) (entries e) 0 =

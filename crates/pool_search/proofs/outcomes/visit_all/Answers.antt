@@ -11,7 +11,7 @@ use Rattle.pool_search.proofs.SearchComplete.{searched_weaker}
 use Rattle.pool_search.proofs.outcomes.visit_all.Goals as goal
 
 pub loop-at-preserved : goal.loop-at-preserved
-loop-at-preserved c =
+loop-at-preserved g c =
     let l = c.loop-at in
     let p = searched c.args.explored.now in
     let es = entries l.explored in

@@ -9,7 +9,7 @@ use Rattle.pool_search.proofs.outcomes.visit_all.Given as goal
 
 -- the entries before the place were visited, and the outcomes of those that are ends were noted
 abbrev pub invariant-loop-at : goal.invariant-loop-at
-invariant-loop-at l =
+invariant-loop-at g l =
     record {
       program : searched l.explored ≡ searched l.initial.explored;
       inside : l.at ≤ length (entries l.explored);
@@ -19,4 +19,4 @@ invariant-loop-at l =
     }
 
 abbrev pub decreases-loop-at : goal.decreases-loop-at
-decreases-loop-at l = l.most - l.at
+decreases-loop-at g l = l.most - l.at

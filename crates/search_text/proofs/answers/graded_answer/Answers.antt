@@ -10,7 +10,7 @@ use Rattle.search_text.proofs.GradeLaws.{listed_grade}
 use Rattle.search_text.proofs.answers.graded_answer.Goals as goal
 
 pub returns-in_default : goal.returns-in_default
-returns-in_default c =
+returns-in_default g c =
     let t = c.in_ok-told.told in
     let h = c.in_ok-told.ensures in
     let names = c.args.names.now in
@@ -22,14 +22,14 @@ returns-in_default c =
     c.listed_answer.ensures
 
 pub returns-then-not-branch : goal.returns-then-not-branch
-returns-then-not-branch c =
+returns-then-not-branch g c =
     let o = c.in-Shown.outcome in
     A.fails o c.in-Shown.labels.items (c.in_ok-outcome.ensures.shown o c.in-Shown.labels c.in-Shown.is)
     (sym c.in_ok-is_allowed.ensures ∙ c.if-not-branch.true)
     (c.in_ok-wrong_text.ensures ∙ ap (wrong_text c.args.names.now o) c.deref-then-not-branch.ensures.value) refl
 
 pub returns : goal.returns
-returns c =
+returns g c =
     let t = c.in_ok-told.told in
     let h = c.in_ok-told.ensures in
     IfOk-weaker c.listed_answer-2.result _ _ (λ a says. A.unknown t.list.items t.kept h.shown h.within says.0 says.1) c.listed_answer-2.ensures

@@ -7,7 +7,7 @@ use Rattle.search_text.specs.Answers as A
 use Rattle.search_text.proofs.answers.sought_answer.Goals as goal
 
 pub dead_answer-requires : goal.dead_answer-requires
-dead_answer-requires c =
+dead_answer-requires g c =
     let p = program_of c.args.program.now.program.now in
     let q = c.args.question.now in
     let d = c.in-Ok-Dead in
@@ -16,14 +16,14 @@ dead_answer-requires c =
     (subst (λ (ns : List ℕ). LeadsInOrder p d.labels.items (IsWantedDead p q ns)) (sym c.deref-in-Ok-Dead-2.ensures.value) led)
 
 pub returns-in_ok-fault_text-in-Ok-Fault : goal.returns-in_ok-fault_text-in-Ok-Fault
-returns-in_ok-fault_text-in-Ok-Fault c =
+returns-in_ok-fault_text-in-Ok-Fault g c =
     A.faulty c.in-Ok-Fault.labels.items (c.in-Ok-Fault.ensures.fault c.in-Ok-Fault.labels (ap Ok c.in-Ok-Fault.field-0-is))
     (c.in_ok-fault_text-in-Ok-Fault.ensures ∙ ap (fault_text c.args.names.now) c.deref-in-Ok-Fault.ensures.value) refl
 
 pub returns-in_ok-finite_text-in-Ok-Finite : goal.returns-in_ok-finite_text-in-Ok-Finite
-returns-in_ok-finite_text-in-Ok-Finite c =
+returns-in_ok-finite_text-in-Ok-Finite g c =
     A.finite c.in-Ok-Finite.kept (c.in-Ok-Finite.ensures.finite c.in-Ok-Finite.kept (ap Ok c.in-Ok-Finite.field-0-is)) c.in_ok-finite_text-in-Ok-Finite.ensures refl
 
 pub returns-in_ok-over_text-in-Ok-Over : goal.returns-in_ok-over_text-in-Ok-Over
-returns-in_ok-over_text-in-Ok-Over c =
+returns-in_ok-over_text-in-Ok-Over g c =
     A.over c.in-Ok-Over.kept (c.in-Ok-Over.ensures.over c.in-Ok-Over.kept (ap Ok c.in-Ok-Over.field-0-is)) c.in_ok-over_text-in-Ok-Over.ensures refl

@@ -6,7 +6,7 @@ use Rattle.pool_search.proofs.explored.Explored.look.Given as goal
 
 -- the entries before the place were looked at
 abbrev pub invariant-loop-at : goal.invariant-loop-at
-invariant-loop-at l =
+invariant-loop-at g l =
     record {
       program : searched l.self ≡ searched l.initial.self;
       inside : l.at ≤ length (entries l.self);
@@ -15,4 +15,4 @@ invariant-loop-at l =
     }
 
 abbrev pub decreases-loop-at : goal.decreases-loop-at
-decreases-loop-at l = l.question.most - l.at
+decreases-loop-at g l = l.question.most - l.at

@@ -1,0 +1,16 @@
+//! What is told of a search while it runs.
+
+/// Is told how far a search is.
+pub trait Progress {
+    /// `kept` is the number of configurations that the search has kept, and `tried` is the number of those whose labels it
+    /// has tried. The loop of a search calls this once for each entry that it visits, before it visits the entry.
+    fn note(&mut self, kept: u32, tried: u32);
+}
+
+/// For callers that want to be told nothing.
+#[derive(Clone, Copy)]
+pub struct Silent;
+
+impl Progress for Silent {
+    fn note(&mut self, _kept: u32, _tried: u32) {}
+}
