@@ -243,3 +243,50 @@ class Race:
 def drawn_race(seed):
     """The text of a small program with runs that differ."""
     return Race(random.Random(seed)).text()
+
+
+# Statements of the two objects of a `Pair`: in each body come two of them. Each object knows the other by the name a, if it was told.
+PIECES = [
+    "answer(hit)",
+    "answer(tell)",
+    "answer(hit, tell)",
+    "n := a ! hit(1)",
+    "a !! tell(1)",
+    "write n",
+    "n := 6 / n",
+    "select when n > 0 answer(hit) then n := 0 when true answer(tell) then end",
+    "select when true then n := 1 when true answer(hit, tell) then end",
+    "a ! rest()",
+    "answer(rest)",
+    "answer(rest, hit)",
+]
+# How the root makes the two known to each other, and what it does last; it may go on for ever.
+LINKS = ["p ! set(q); q ! set(p)", "p !! set(q); q !! set(p)", "p ! set(q)"]
+LAST = ["", "; write p ! hit(3)", "; p !! tell(2)", "; q ! rest()", "; while true do self !! tick(); answer(tick) od"]
+
+
+class Pair:
+    """A small program of two objects that know each other: they call each other, send, choose, divide and write."""
+
+    def __init__(self, dice):
+        self.dice = dice
+
+    def text(self):
+        root = f"class Main var p : P var q : Q method tick() begin end body p := new P; q := new Q; {self.dice.choice(LINKS)}{self.dice.choice(LAST)} end\n"
+        return self.one_class("P", "Q") + self.one_class("Q", "P") + root
+
+    def one_class(self, name, other):
+        post = self.dice.choice(["", " post n := k"])
+        methods = [
+            f"method set(x : {other}) begin a := x; n := 0 end",
+            f"method hit(k : Int) : Int begin result k{post} end",
+            "method tell(k : Int) begin n := k end",
+            "method rest() begin end",
+        ]
+        body = f"body answer(set); {self.dice.choice(PIECES)}; {self.dice.choice(PIECES)} end\n"
+        return "\n".join([f"class {name}", f"var a : {other}", "var n : Int", *methods, body])
+
+
+def drawn_pair(seed):
+    """The text of a small program of two objects that know each other."""
+    return Pair(random.Random(seed)).text()

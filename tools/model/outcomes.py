@@ -53,7 +53,7 @@ class Interleavings:
 
     def __init__(self, program):
         self.classes = parse(program)
-        self.states, self.numbers, self.known, self.made = [], {}, {}, {}
+        self.states, self.numbers, self.known, self.made, self.in_call = [], {}, {}, {}, {}
         self.start = ((self.number(Configuration(self.classes, 0).objects[0]),), ())
 
     def number(self, object_):
@@ -142,10 +142,15 @@ class Interleavings:
                 found.append((words[2:] if words[0] == "write" else (), changed, after))
         return found
 
+    def is_in_call(self, number):
+        """Whether an object in the state of this number waits in a call."""
+        if number not in self.in_call:
+            self.in_call[number] = self.configuration([(0, number)], ()).action(0)[0] in ("send", "waits")
+        return self.in_call[number]
+
     def waiting(self, configuration):
         """The objects that wait in a call."""
-        made = self.whole(configuration)
-        return {name for name in made.objects if made.action(name)[0] in ("send", "waits")}
+        return {name for name, number in enumerate(configuration[0]) if self.is_in_call(number)}
 
     def key(self, made):
         """A configuration of model.py whose objects have the names 0, 1, 2, .., as it is kept here."""
@@ -166,13 +171,14 @@ class Interleavings:
 
 
 class Search:
-    """The outcomes of a program. These are all if no more than `most` pairs of a configuration and what was written are met."""
+    """The outcomes of a program. These are all if no more than `most` pairs of a configuration and what was written are met. Without items
+    what was written is not kept, and only configurations are met."""
 
-    def __init__(self, program, most):
+    def __init__(self, program, most, with_items=True):
         self.runs, self.found = Interleavings(program), set()
         # (of each configuration its number, the transitions from it, and where there are none how a run ends)
         numbers, configurations, nexts, kinds = {self.runs.start: 0}, [self.runs.start], [], {}
-        self.numbers, self.configurations, self.edges = numbers, configurations, {}
+        self.numbers, self.configurations, self.edges, self.kinds = numbers, configurations, {}, kinds
         met, waiting = {(0, ())}, [(0, ())]
         while waiting and len(met) <= most:
             number, items = waiting.pop()
@@ -185,7 +191,7 @@ class Search:
                     if after not in numbers:
                         numbers[after] = len(configurations)
                         configurations.append(after)
-                    nexts[number].append((more, numbers[after]))
+                    nexts[number].append((more if with_items else (), numbers[after]))
                     self.edges[number].append((changed, numbers[after]))
                 if not nexts[number]:
                     kinds[number] = ending_of(self.runs.whole(configurations[number]))
@@ -197,6 +203,14 @@ class Search:
                     met.add(pair)
                     waiting.append(pair)
         self.is_whole, self.met = not waiting, len(met)
+
+    def ends(self):
+        """The configurations that were met in which no transition is possible, as configurations of model.py."""
+        return [self.runs.whole(self.configurations[number]) for number in self.kinds]
+
+    def has_error(self):
+        """Whether an object was met that has met an error."""
+        return any(state.error for state in self.runs.states)
 
     def dead(self):
         """Of each configuration with dead objects their names. All configurations have to be met."""

@@ -1,45 +1,91 @@
-//! Tests of failures: each call of the files, each write and each
-//! room of a sink, reads of one byte, and each prefix of a program.
-use crate::calls::{CALM, Case, NEVER, holds};
+//! Tests of failures: each call of the files, each write and each room of a sink, and reads of one byte.
+use pool_driver::pool;
+use pool_outside::{MemFiles, MemSink, NamedText, PieceFiles};
 use std::alloc::Global;
 use std::test::Fail;
 
-/// The frames of a program that writes 1, and of a call between two
-/// nodes. The fields are the status, the output and the error line.
-const ONE: &str =
-    "record P L S | [0] | mesh 1 1 | quantum 5~turn 0 3 | class Main body write 1 end | [1] | [2]";
+/// The placement, the schedule and the program of a call of `record`.
+type Texts = (&'static str, &'static str, &'static str);
 
-const TWICE: &str = "record P L S | [0] | mesh 2 1~place Server at 1~ | \
-    quantum 10~turn 0~link 0 1~link 1 0~turn 0 2~link 0 1~turn 0~turn 1 3~link 1 0~turn 0~ | \
-    class Server method twice(n : Int) : Int begin result n + n end body answer(twice) end~class Main var s : Server body s := new Server; \
-    write s ! twice(21) end | [1] | [2]";
+/// The status of a call, its output and its error line.
+type Answer = (u8, &'static str, &'static str);
 
-/// The frame of a program that ends too early.
-const SHORT: &str =
-    "record P L S | [0] | mesh 1 1 | quantum 5~turn 0 3 | class Main var x : Bool body if x | [1] | [2]";
+/// The behaviour of the files and the sinks in a call, and the amount of text that is then written.
+#[derive(Clone, Copy)]
+struct Case {
+    /// If true, each read gives one byte, and no call of the files fails.
+    by_bytes: bool,
+    /// The number of the call of the files that fails, from 0.
+    call: u64,
+    /// The numbers of the writes that fail, on the output and on the error sink, from 0.
+    writes: (u64, u64),
+    /// The room of both sinks, in bytes.
+    room: usize,
+    /// The largest number of bytes that a write takes.
+    takes: usize,
+    /// The largest number of bytes that is written to either sink.
+    written: usize,
+}
+
+/// The number of a call that is not made.
+const NEVER: u64 = 1000000000;
+
+/// A call in which nothing fails.
+const CALM: Case = Case {
+    by_bytes: false,
+    call: NEVER,
+    writes: (NEVER, NEVER),
+    room: 400,
+    takes: 10,
+    written: 400,
+};
+
+/// A program that writes 1, and a call between two nodes.
+const ONE: Texts = (
+    "mesh 1 1",
+    "quantum 5\nturn 0 3",
+    "class Main body write 1 end",
+);
+
+const TWICE: Texts = (
+    "mesh 2 1\nplace Server at 1",
+    "quantum 10\nturn 0\nlink 0 1\nlink 1 0\nturn 0 2\nlink 0 1\nturn 0\nturn 1 3\nlink 1 0\nturn 0\n",
+    "class Server method twice(n : Int) : Int begin result n + n end body answer(twice) end\nclass Main var s : Server body s := new Server; \
+    write s ! twice(21) end",
+);
+
+/// A program that ends too early.
+const SHORT: Texts = (
+    "mesh 1 1",
+    "quantum 5\nturn 0 3",
+    "class Main var x : Bool body if x",
+);
 
 /// The results if nothing fails.
-const WRITTEN: &str = "0 | record 2~1 turn 0 write 0.0 1~end quiet 1~";
+const WRITTEN: Answer = (0, "record 2\n1 turn 0 write 0.0 1\nend quiet 1\n", "");
 
-const CALLED: &str =
-    "0 | record 2~1 turn 0 post create 0.0 Server 1~2 link 0 1 new 0.0 1.0 Server by 1~3 link 1 0 created 0.0 1.0 by 1~4 turn 0 local 0.0 2~\
-    5 turn 0 post call 0.0 1.0 twice 21~6 link 0 1 arrive 0.0 1.0 twice~7 turn 0 idle~8 turn 1 answer 1.0 0.0 twice 21 by 5~\
-    9 turn 1 local 1.0 3~10 turn 1 return 1.0 0.0 42 by 5~11 link 1 0 result 0.0 42 by 5~12 turn 0 write 0.0 42~end quiet 12~";
+const CALLED: Answer = (
+    0,
+    "record 2\n1 turn 0 post create 0.0 Server 1\n2 link 0 1 new 0.0 1.0 Server by 1\n3 link 1 0 created 0.0 1.0 by 1\n4 turn 0 local 0.0 2\n\
+    5 turn 0 post call 0.0 1.0 twice 21\n6 link 0 1 arrive 0.0 1.0 twice\n7 turn 0 idle\n8 turn 1 answer 1.0 0.0 twice 21 by 5\n\
+    9 turn 1 local 1.0 3\n10 turn 1 return 1.0 0.0 42 by 5\n11 link 1 0 result 0.0 42 by 5\n12 turn 0 write 0.0 42\nend quiet 12\n",
+    "",
+);
 
-const UNEXPECTED: &str = "2 |  | pool: program: Unexpected at token 9~";
+const UNEXPECTED: Answer = (2, "", "pool: program: Unexpected at token 9\n");
 
 /// The results if a call of the files fails. For each input one
 /// call opens it, one gives its bytes, and one gives its end.
-const NO_PROGRAM: &str = "5 |  | pool: program: read fault~";
+const NO_PROGRAM: Answer = (5, "", "pool: program: read fault\n");
 
-const NO_PLACEMENT: &str = "5 |  | pool: placement: read fault~";
+const NO_PLACEMENT: Answer = (5, "", "pool: placement: read fault\n");
 
-const NO_SCHEDULE: &str = "5 |  | pool: schedule: read fault~";
+const NO_SCHEDULE: Answer = (5, "", "pool: schedule: read fault\n");
 
-/// Each entry has a row, the call of the files that fails, the writes that fail on the output and on the error sink,
+/// Each entry has a result, the call of the files that fails, the writes that fail on the output and on the error sink,
 /// and the number of bytes that are written before. Such a write fails once, and would succeed if it was tried again.
 /// Each line of the record is written by itself, and a write takes ten bytes of it.
-const WRITES: [(&str, u64, u64, u64, usize); 9] = [
+const WRITES: [(Answer, u64, u64, u64, usize); 9] = [
     (WRITTEN, NEVER, 0, NEVER, 0),
     (WRITTEN, NEVER, 1, NEVER, 9),
     (WRITTEN, NEVER, 2, NEVER, 19),
@@ -51,66 +97,120 @@ const WRITES: [(&str, u64, u64, u64, usize); 9] = [
     (NO_PLACEMENT, 4, NEVER, 2, 20),
 ];
 
-/// A case with this room in both sinks, for an output of this length.
-fn with_room(call: u64, room: usize, length: usize) -> Case {
-    Case {
-        is_cut: room < length,
-        call,
-        rooms: (room, room),
-        takes: 7,
-        written: (room, room),
-        ..CALM
-    }
+/// A text of its own.
+fn own(alloc: Global, text: &str) -> String {
+    let mut own = String::new(alloc);
+    let _ = own.push_str(text);
+    own
 }
 
-/// Whether a row holds for each room of the sinks from `least` to
-/// `length`. A prefix of the output is then written that fills the room.
+/// The files of a call, under the names `L`, `S` and `P`.
+fn files_of(alloc: Global, texts: Texts) -> Vec<NamedText> {
+    let mut files = Vec::new(alloc);
+    for (name, text) in [("L", texts.0), ("S", texts.1), ("P", texts.2)] {
+        let _ = files.push(NamedText {
+            name: own(alloc, name),
+            text: own(alloc, text).into_bytes(),
+        });
+    }
+    files
+}
+
+/// A list of one number.
+fn only(alloc: Global, number: u64) -> Vec<u64> {
+    let mut numbers = Vec::new(alloc);
+    let _ = numbers.push(number);
+    numbers
+}
+
+/// The status of a call of `record` with these sinks.
+fn status_of(alloc: Global, texts: Texts, case: Case, out: &mut MemSink, err: &mut MemSink) -> u8 {
+    let mut words = Vec::new(alloc);
+    for word in ["record", "P", "L", "S"] {
+        let _ = words.push(own(alloc, word));
+    }
+    let files = files_of(alloc, texts);
+    let status = if case.by_bytes {
+        let mut files = PieceFiles::make(files, 1);
+        pool(alloc, &words, &mut files, out, err)
+    } else {
+        let mut files = MemFiles::make(files, only(alloc, case.call));
+        pool(alloc, &words, &mut files, out, err)
+    };
+    status.code()
+}
+
+/// Whether these bytes are the front of a text, with at most `most` bytes.
+fn is_front(bytes: &[u8], text: &str, most: usize) -> bool {
+    bytes == &text.as_bytes()[..most.min(text.len())]
+}
+
+/// Whether a call is answered so in this case. If not all of the text is written, the status is 6.
+fn holds(alloc: Global, texts: Texts, answer: Answer, case: Case) -> bool {
+    let takes = case.takes.max(1);
+    let out = MemSink::make(alloc, case.room, takes, only(alloc, case.writes.0));
+    let err = MemSink::make(alloc, case.room, takes, only(alloc, case.writes.1));
+    let (Ok(mut out), Ok(mut err)) = (out, err) else {
+        return false;
+    };
+    let is_cut = case.written < answer.1.len() || case.written < answer.2.len();
+    let status = if is_cut { 6 } else { answer.0 };
+    status_of(alloc, texts, case, &mut out, &mut err) == status
+        && is_front(out.written(), answer.1, case.written)
+        && is_front(err.written(), answer.2, case.written)
+}
+
+/// Whether a call is answered so for each room of the sinks from `least` to
+/// the length of the text. A front of the text is then written that fills the room.
 fn holds_in_each_room(
     alloc: Global,
-    frame: &str,
-    row: &str,
+    texts: Texts,
+    answer: Answer,
     call: u64,
     least: usize,
-    length: usize,
 ) -> bool {
+    let length = answer.1.len().max(answer.2.len());
     for room in least..length.saturating_add(1) {
-        if !holds(alloc, frame, row, with_room(call, room, length)) {
+        let case = Case {
+            call,
+            room,
+            takes: 7,
+            written: room,
+            ..CALM
+        };
+        if !holds(alloc, texts, answer, case) {
             return false;
         }
     }
     true
 }
 
-/// Each entry ends with the length of the output.
 #[test]
 fn each_room_takes_a_front_of_what_is_written(rt: HostRuntime) -> Result<(), Fail> {
-    for (frame, row, length) in [
-        (ONE, WRITTEN, 42),
-        (TWICE, CALLED, 372),
-        (SHORT, UNEXPECTED, 37),
-    ] {
+    for (texts, answer) in [(ONE, WRITTEN), (TWICE, CALLED), (SHORT, UNEXPECTED)] {
         assert!(rt;
-            holds_in_each_room(rt.alloc(), frame, row, NEVER, 0, length),
-            "{row}"
+            holds_in_each_room(rt.alloc(), texts, answer, NEVER, 0),
+            "{}",
+            answer.1
         );
     }
     Ok(())
 }
 
-/// Each entry ends with the smallest room of the sinks, and the length of the error line.
+/// Each entry ends with the first of the three calls, and the smallest room of the sinks.
 #[test]
 fn each_failing_call_of_the_files_is_told(rt: HostRuntime) -> Result<(), Fail> {
-    for (frame, row, first, least, length) in [
-        (ONE, NO_PROGRAM, 0_u64, 0, 26),
-        (ONE, NO_PLACEMENT, 3, 0, 28),
-        (ONE, NO_SCHEDULE, 6, 0, 27),
-        (TWICE, NO_PROGRAM, 0, 26, 26),
-        (TWICE, NO_PLACEMENT, 3, 28, 28),
-        (TWICE, NO_SCHEDULE, 6, 27, 27),
+    for (texts, answer, first, least) in [
+        (ONE, NO_PROGRAM, 0_u64, 0),
+        (ONE, NO_PLACEMENT, 3, 0),
+        (ONE, NO_SCHEDULE, 6, 0),
+        (TWICE, NO_PROGRAM, 0, 26),
+        (TWICE, NO_PLACEMENT, 3, 28),
+        (TWICE, NO_SCHEDULE, 6, 27),
     ] {
         for call in first..first.saturating_add(3) {
             assert!(rt;
-                holds_in_each_room(rt.alloc(), frame, row, call, least, length),
+                holds_in_each_room(rt.alloc(), texts, answer, call, least),
                 "call {call}"
             );
         }
@@ -120,33 +220,14 @@ fn each_failing_call_of_the_files_is_told(rt: HostRuntime) -> Result<(), Fail> {
 
 #[test]
 fn no_write_is_made_after_a_failed_one(rt: HostRuntime) -> Result<(), Fail> {
-    for (row, call, out, error, before) in WRITES {
+    for (answer, call, out, error, written) in WRITES {
         let case = Case {
-            is_cut: true,
             call,
             writes: (out, error),
-            written: (before, before),
+            written,
             ..CALM
         };
-        assert!(rt; holds(rt.alloc(), ONE, row, case), "{before}: {row}");
-    }
-    Ok(())
-}
-
-/// The prefixes with the first class and at most the line feed
-/// after it are programs. The class has 86 of the 158 bytes.
-#[test]
-fn each_front_of_a_program_is_refused_but_its_first_class(rt: HostRuntime) -> Result<(), Fail> {
-    for program in 0..158_usize {
-        let row = if program == 86 || program == 87 {
-            "0 | record 2~end quiet 0~"
-        } else {
-            "2 |  | pool: program: ..~"
-        };
-        assert!(rt;
-            holds(rt.alloc(), TWICE, row, Case { program, ..CALM }),
-            "length {program}"
-        );
+        assert!(rt; holds(rt.alloc(), ONE, answer, case), "{written}");
     }
     Ok(())
 }
