@@ -1,4 +1,4 @@
-use Rattle.std.proofs.Common.{◌≡◌, sym, ap, ap₂, subst, ◌∙◌, List, slice_get, Some}
+use Rattle.std.proofs.Common.{◌≡◌, sym, ap, ap₂, subst, ◌∙◌, List, slice_get, Some, refl}
 use Rattle.std.specs.Ordering.{nat_cmp}
 use Rattle.std.specs.Option.{IfSome, option_copied}
 use Rattle.std.specs.BTreeMap.{get}
@@ -14,6 +14,7 @@ use Rattle.object_moves.specs.Effects.{effect_mail, with_message}
 use Rattle.object_moves.specs.Known.{parcel_label, parcel_message}
 use Rattle.object_moves.proofs.KnownFacts.{failed_as, made_as, object_in, only_within, state_there}
 use Rattle.object_moves.proofs.SmallMail.{mail_failed, mail_made}
+use Rattle.object_moves.proofs.StateGrowth.{all_of}
 use Rattle.object_moves.proofs.table.MoveTable.compute_mail.Goals as goal
 
 abbrev message_with : NameId → List Value → Message
@@ -60,3 +61,57 @@ returns-in-Some-2-clause-within c =
     let t = thing_object c.in-Some-get.after.now in
     let at : slice_get ys n ≡ Some t = subst (λ r. IfSome r (λ n. slice_get ys n ≡ Some t)) c.in-Some-2.is c.in_ok-to.ensures.found in
     only_within ys n (slice_get_within ys n t at)
+
+pub returns-in_err-small-clause-grows : goal.returns-in_err-small-clause-grows
+returns-in_err-small-clause-grows c = all_of (states c.args.self.now.table)
+
+pub returns-in_err-small-clause-program : goal.returns-in_err-small-clause-program
+returns-in_err-small-clause-program c = refl
+
+pub returns-in_err-step-clause-grows : goal.returns-in_err-step-clause-grows
+returns-in_err-step-clause-grows c = all_of (states c.args.self.now.table)
+
+pub returns-in_err-step-clause-program : goal.returns-in_err-step-clause-program
+returns-in_err-step-clause-program c = refl
+
+pub returns-then-not-branch-clause-grows : goal.returns-then-not-branch-clause-grows
+returns-then-not-branch-clause-grows c = all_of (states c.args.self.now.table)
+
+pub returns-then-not-branch-clause-program : goal.returns-then-not-branch-clause-program
+returns-then-not-branch-clause-program c = refl
+
+pub returns-in_default-get-clause-grows : goal.returns-in_default-get-clause-grows
+returns-in_default-get-clause-grows c = all_of (states c.args.self.now.table)
+
+pub returns-in_default-get-clause-program : goal.returns-in_default-get-clause-program
+returns-in_default-get-clause-program c = refl
+
+pub returns-clause-grows : goal.returns-clause-grows
+returns-clause-grows c = c.number_of.ensures.grows
+
+pub returns-clause-program : goal.returns-clause-program
+returns-clause-program c = c.number_of.ensures.program
+
+pub returns-in-Some-2-clause-grows : goal.returns-in-Some-2-clause-grows
+returns-in-Some-2-clause-grows c = c.number_of.ensures.grows
+
+pub returns-in-Some-2-clause-program : goal.returns-in-Some-2-clause-program
+returns-in-Some-2-clause-program c = c.number_of.ensures.program
+
+pub returns-in_err-to-clause-grows : goal.returns-in_err-to-clause-grows
+returns-in_err-to-clause-grows c = c.number_of.ensures.grows
+
+pub returns-in_err-to-clause-program : goal.returns-in_err-to-clause-program
+returns-in_err-to-clause-program c = c.number_of.ensures.program
+
+pub returns-clause-is : goal.returns-clause-is
+returns-clause-is c = tt
+
+pub returns-clause-within : goal.returns-clause-within
+returns-clause-within c = tt
+
+pub returns-in_default-get-clause-is : goal.returns-in_default-get-clause-is
+returns-in_default-get-clause-is c = tt
+
+pub returns-in_default-get-clause-within : goal.returns-in_default-get-clause-within
+returns-in_default-get-clause-within c = tt

@@ -1,4 +1,4 @@
-use Rattle.std.proofs.Common.{◌≡◌, ◌<◌, sym, ap, subst, ◌∙◌, length, slice_get, Some, arith}
+use Rattle.std.proofs.Common.{◌≡◌, ◌<◌, refl, sym, ap, subst, ◌∙◌, length, slice_get, Some, arith}
 use Rattle.std.specs.Ordering.{nat_cmp}
 use Rattle.std.specs.Option.{IfSome, option_copied}
 use Rattle.std.specs.BTreeMap.{get}
@@ -10,7 +10,7 @@ use Rattle.object_moves.specs.Effects.{alone, effect_new}
 use Rattle.object_moves.specs.Known.{birth_label, state_at}
 use Rattle.object_moves.proofs.KnownFacts.{both_within, failed_as, made_as, object_in, state_there}
 use Rattle.object_moves.proofs.SmallNew.{birth_failed, birth_made}
-use Rattle.object_moves.proofs.StateGrowth.{no_shorter, state_still}
+use Rattle.object_moves.proofs.StateGrowth.{all_of, front_of_front, no_shorter, state_still}
 use Rattle.object_moves.proofs.table.MoveTable.compute_new.Goals as goal
 
 pub returns-then-not-branch-clause-is : goal.returns-then-not-branch-clause-is
@@ -63,3 +63,87 @@ returns-in-Some-3-clause-within c =
     let first : n < length ys = slice_get_within ys n t at in
     let longer = no_shorter ys zs c.number_of-2.ensures.grows in
     both_within zs n m (omega arith) (slice_get_within zs m u of)
+
+pub returns-in_err-small-clause-grows : goal.returns-in_err-small-clause-grows
+returns-in_err-small-clause-grows c = all_of (states c.args.self.now.table)
+
+pub returns-in_err-small-clause-program : goal.returns-in_err-small-clause-program
+returns-in_err-small-clause-program c = refl
+
+pub returns-in_err-step-clause-grows : goal.returns-in_err-step-clause-grows
+returns-in_err-step-clause-grows c = all_of (states c.args.self.now.table)
+
+pub returns-in_err-step-clause-program : goal.returns-in_err-step-clause-program
+returns-in_err-step-clause-program c = refl
+
+pub returns-then-not-branch-clause-grows : goal.returns-then-not-branch-clause-grows
+returns-then-not-branch-clause-grows c = all_of (states c.args.self.now.table)
+
+pub returns-then-not-branch-clause-program : goal.returns-then-not-branch-clause-program
+returns-then-not-branch-clause-program c = refl
+
+pub returns-in_default-get-clause-grows : goal.returns-in_default-get-clause-grows
+returns-in_default-get-clause-grows c = all_of (states c.args.self.now.table)
+
+pub returns-in_default-get-clause-program : goal.returns-in_default-get-clause-program
+returns-in_default-get-clause-program c = refl
+
+pub returns-in_default-2-clause-grows : goal.returns-in_default-2-clause-grows
+returns-in_default-2-clause-grows c = c.number_of.ensures.grows
+
+pub returns-in_default-2-clause-program : goal.returns-in_default-2-clause-program
+returns-in_default-2-clause-program c = c.number_of.ensures.program
+
+pub returns-in_err-maker-clause-grows : goal.returns-in_err-maker-clause-grows
+returns-in_err-maker-clause-grows c = c.number_of.ensures.grows
+
+pub returns-in_err-maker-clause-program : goal.returns-in_err-maker-clause-program
+returns-in_err-maker-clause-program c = c.number_of.ensures.program
+
+pub returns-in_default-get-2-clause-grows : goal.returns-in_default-get-2-clause-grows
+returns-in_default-get-2-clause-grows c = c.number_of.ensures.grows
+
+pub returns-in_default-get-2-clause-program : goal.returns-in_default-get-2-clause-program
+returns-in_default-get-2-clause-program c = c.number_of.ensures.program
+
+pub returns-clause-grows : goal.returns-clause-grows
+returns-clause-grows c = front_of_front (states c.args.self.now.table) (states c.number_of.new.self.table) (states c.number_of-2.new.self.table) c.number_of.ensures.grows c.number_of-2.ensures.grows
+
+pub returns-clause-program : goal.returns-clause-program
+returns-clause-program c = c.number_of-2.ensures.program ∙ c.number_of.ensures.program
+
+pub returns-in-Some-3-clause-grows : goal.returns-in-Some-3-clause-grows
+returns-in-Some-3-clause-grows c = front_of_front (states c.args.self.now.table) (states c.number_of.new.self.table) (states c.number_of-2.new.self.table) c.number_of.ensures.grows c.number_of-2.ensures.grows
+
+pub returns-in-Some-3-clause-program : goal.returns-in-Some-3-clause-program
+returns-in-Some-3-clause-program c = c.number_of-2.ensures.program ∙ c.number_of.ensures.program
+
+pub returns-in_err-new-clause-grows : goal.returns-in_err-new-clause-grows
+returns-in_err-new-clause-grows c = front_of_front (states c.args.self.now.table) (states c.number_of.new.self.table) (states c.number_of-2.new.self.table) c.number_of.ensures.grows c.number_of-2.ensures.grows
+
+pub returns-in_err-new-clause-program : goal.returns-in_err-new-clause-program
+returns-in_err-new-clause-program c = c.number_of-2.ensures.program ∙ c.number_of.ensures.program
+
+pub returns-clause-is : goal.returns-clause-is
+returns-clause-is c = tt
+
+pub returns-clause-within : goal.returns-clause-within
+returns-clause-within c = tt
+
+pub returns-in_default-get-clause-is : goal.returns-in_default-get-clause-is
+returns-in_default-get-clause-is c = tt
+
+pub returns-in_default-get-clause-within : goal.returns-in_default-get-clause-within
+returns-in_default-get-clause-within c = tt
+
+pub returns-in_default-2-clause-is : goal.returns-in_default-2-clause-is
+returns-in_default-2-clause-is c = tt
+
+pub returns-in_default-2-clause-within : goal.returns-in_default-2-clause-within
+returns-in_default-2-clause-within c = tt
+
+pub returns-in_default-get-2-clause-is : goal.returns-in_default-get-2-clause-is
+returns-in_default-get-2-clause-is c = tt
+
+pub returns-in_default-get-2-clause-within : goal.returns-in_default-get-2-clause-within
+returns-in_default-get-2-clause-within c = tt

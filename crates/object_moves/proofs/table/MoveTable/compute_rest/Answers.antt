@@ -17,7 +17,7 @@ use Rattle.object_moves.specs.declared.known.KnownRest.{KnownRest}
 use Rattle.object_moves.specs.declared.table.MoveTable.{MoveTable}
 use Rattle.object_moves.proofs.KnownFacts.{object_in, rest_computed, state_there}
 use Rattle.object_moves.proofs.SmallConfigurations.{alone_object}
-use Rattle.object_moves.proofs.StateGrowth.{no_shorter, state_still}
+use Rattle.object_moves.proofs.StateGrowth.{no_shorter, state_still, all_of}
 use Rattle.object_moves.proofs.table.MoveTable.compute_rest.Goals as goal
 use Rattle.object_moves.proofs.table.MoveTable.compute_rest.Goals.{in-Some-next_message+in_ok-next-in-Some-next_message, in-None}
 
@@ -56,3 +56,48 @@ returns-clause-is c =
     let k : KnownRest = record { object = o; state = s; steps = steps; to = n; next = next.next } in
     let known : IsKnownRest p ys k = rest_computed p ys k (omega (arith, c.requires)) (slice_get_within ys n (thing_object t) at) (ap (strolled p o steps) here ∙ moved) in
     (subst (λ (zs : List Object). IsKnownRest p zs k) (sym still) known, refl, refl)
+
+pub returns-in_err-small-clause-grows : goal.returns-in_err-small-clause-grows
+returns-in_err-small-clause-grows c = all_of (states c.args.self.now.table)
+
+pub returns-in_err-small-clause-program : goal.returns-in_err-small-clause-program
+returns-in_err-small-clause-program c = refl
+
+pub returns-in_err-steps-clause-grows : goal.returns-in_err-steps-clause-grows
+returns-in_err-steps-clause-grows c = all_of (states c.args.self.now.table)
+
+pub returns-in_err-steps-clause-program : goal.returns-in_err-steps-clause-program
+returns-in_err-steps-clause-program c = refl
+
+pub returns-in_default-2-clause-grows : goal.returns-in_default-2-clause-grows
+returns-in_default-2-clause-grows c = all_of (states c.args.self.now.table)
+
+pub returns-in_default-2-clause-program : goal.returns-in_default-2-clause-program
+returns-in_default-2-clause-program c = refl
+
+pub returns-in_default-get-clause-grows : goal.returns-in_default-get-clause-grows
+returns-in_default-get-clause-grows c = all_of (states c.args.self.now.table)
+
+pub returns-in_default-get-clause-program : goal.returns-in_default-get-clause-program
+returns-in_default-get-clause-program c = refl
+
+pub returns-in_default-3-clause-grows : goal.returns-in_default-3-clause-grows
+returns-in_default-3-clause-grows c = c.number_of.ensures.grows
+
+pub returns-in_default-3-clause-program : goal.returns-in_default-3-clause-program
+returns-in_default-3-clause-program c = c.number_of.ensures.program
+
+pub returns-in_err-to-clause-grows : goal.returns-in_err-to-clause-grows
+returns-in_err-to-clause-grows c = c.number_of.ensures.grows
+
+pub returns-in_err-to-clause-program : goal.returns-in_err-to-clause-program
+returns-in_err-to-clause-program c = c.number_of.ensures.program
+
+pub returns-in_default-2-clause-is : goal.returns-in_default-2-clause-is
+returns-in_default-2-clause-is c = tt
+
+pub returns-in_default-get-clause-is : goal.returns-in_default-get-clause-is
+returns-in_default-get-clause-is c = tt
+
+pub returns-in_default-3-clause-is : goal.returns-in_default-3-clause-is
+returns-in_default-3-clause-is c = tt

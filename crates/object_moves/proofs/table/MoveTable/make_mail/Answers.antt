@@ -1,4 +1,4 @@
-use Rattle.std.proofs.Common.{◌≡◌, ◌<◌, ap, subst, ◌∙◌, length, slice_get, [], Ok, Some, None, arith}
+use Rattle.std.proofs.Common.{◌≡◌, ◌<◌, ap, subst, ◌∙◌, length, slice_get, [], Ok, Some, None, arith, refl}
 use Rattle.std.specs.Option.{IfSome}
 use Rattle.std.proofs.lemmas.List.Elements.{All-head}
 use Rattle.std.proofs.lemmas.Option.{get_or_from_slice_get, slice_get_within}
@@ -13,6 +13,7 @@ use Rattle.object_moves.specs.declared.known.One.TheVariants as O
 use Rattle.object_moves.proofs.KnownFacts.{read_at}
 use Rattle.object_moves.proofs.RowMail.{mail_gone, mail_impossible, mail_leads}
 use Rattle.object_moves.proofs.RowMoves.{set_within}
+use Rattle.object_moves.proofs.StateGrowth.{all_of, within_still}
 use Rattle.object_moves.proofs.table.MoveTable.make_mail.Goals as goal
 
 pub returns-in-Ok-Some-Impossible-clause-impossible : goal.returns-in-Ok-Some-Impossible-clause-impossible
@@ -72,3 +73,66 @@ returns-in-Ok-Made-clause-made c = λ _.
     let moved : IsMoved (length ns) o a ms ks = subst (λ n. IsMoved n o a ms ks) count (c.in-Ok-Made.ensures.made (ap Ok c.in-Ok-Made.field-0-is)) in
     mail_leads p xs ns ms o a (slice_get_within ns o s there) ys told.to ks told.ensures.grows c.requires.within moved
     (ap (λ n. effect_mail p e (state_at xs n)) (get_or_from_slice_get ns o s 0 there) ∙ is)
+
+pub returns-in_default-clause-grows : goal.returns-in_default-clause-grows
+returns-in_default-clause-grows c = all_of (states c.args.self.now.table)
+
+pub returns-in_default-clause-program : goal.returns-in_default-clause-program
+returns-in_default-clause-program c = refl
+
+pub returns-in-Err-clause-grows : goal.returns-in-Err-clause-grows
+returns-in-Err-clause-grows c = c.mail.ensures.grows
+
+pub returns-in-Err-clause-program : goal.returns-in-Err-clause-program
+returns-in-Err-clause-program c = c.mail.ensures.program
+
+pub returns-in-Ok-None-clause-grows : goal.returns-in-Ok-None-clause-grows
+returns-in-Ok-None-clause-grows c = c.mail.ensures.grows
+
+pub returns-in-Ok-None-clause-program : goal.returns-in-Ok-None-clause-program
+returns-in-Ok-None-clause-program c = c.mail.ensures.program
+
+pub returns-in-Ok-Some-Impossible-clause-grows : goal.returns-in-Ok-Some-Impossible-clause-grows
+returns-in-Ok-Some-Impossible-clause-grows c = c.mail.ensures.grows
+
+pub returns-in-Ok-Some-Impossible-clause-program : goal.returns-in-Ok-Some-Impossible-clause-program
+returns-in-Ok-Some-Impossible-clause-program c = c.mail.ensures.program
+
+pub returns-in-Err-change_messages-clause-grows : goal.returns-in-Err-change_messages-clause-grows
+returns-in-Err-change_messages-clause-grows c = c.mail.ensures.grows
+
+pub returns-in-Err-change_messages-clause-program : goal.returns-in-Err-change_messages-clause-program
+returns-in-Err-change_messages-clause-program c = c.mail.ensures.program
+
+pub returns-in-Ok-Impossible-clause-grows : goal.returns-in-Ok-Impossible-clause-grows
+returns-in-Ok-Impossible-clause-grows c = c.mail.ensures.grows
+
+pub returns-in-Ok-Impossible-clause-program : goal.returns-in-Ok-Impossible-clause-program
+returns-in-Ok-Impossible-clause-program c = c.mail.ensures.program
+
+pub returns-in-Ok-Made-clause-grows : goal.returns-in-Ok-Made-clause-grows
+returns-in-Ok-Made-clause-grows c = c.mail.ensures.grows
+
+pub returns-in-Ok-Made-clause-program : goal.returns-in-Ok-Made-clause-program
+returns-in-Ok-Made-clause-program c = c.mail.ensures.program
+
+pub returns-in-Ok-Unknown-clause-grows : goal.returns-in-Ok-Unknown-clause-grows
+returns-in-Ok-Unknown-clause-grows c = c.mail.ensures.grows
+
+pub returns-in-Ok-Unknown-clause-program : goal.returns-in-Ok-Unknown-clause-program
+returns-in-Ok-Unknown-clause-program c = c.mail.ensures.program
+
+pub returns-in_default-clause-within : goal.returns-in_default-clause-within
+returns-in_default-clause-within c = c.requires.within
+
+pub returns-in-Ok-None-clause-within : goal.returns-in-Ok-None-clause-within
+returns-in-Ok-None-clause-within c = within_still (states c.args.self.now.table) (states c.mail.new.self.table) c.args.numbers.now.items c.mail.ensures.grows c.requires.within
+
+pub returns-in-Ok-Some-Impossible-clause-within : goal.returns-in-Ok-Some-Impossible-clause-within
+returns-in-Ok-Some-Impossible-clause-within c = within_still (states c.args.self.now.table) (states c.mail.new.self.table) c.args.numbers.now.items c.mail.ensures.grows c.requires.within
+
+pub returns-in-Ok-Impossible-clause-within : goal.returns-in-Ok-Impossible-clause-within
+returns-in-Ok-Impossible-clause-within c = within_still (states c.args.self.now.table) (states c.mail.new.self.table) c.args.numbers.now.items c.mail.ensures.grows c.requires.within
+
+pub returns-in-Ok-Unknown-clause-within : goal.returns-in-Ok-Unknown-clause-within
+returns-in-Ok-Unknown-clause-within c = within_still (states c.args.self.now.table) (states c.mail.new.self.table) c.args.numbers.now.items c.mail.ensures.grows c.requires.within

@@ -1,4 +1,4 @@
-use Rattle.std.proofs.Common.{◌≡◌, ◌<◌, ℕ, sym, ap, subst, ◌∙◌, length, slice_get, [], ◌∷◌, Some, None, arith}
+use Rattle.std.proofs.Common.{◌≡◌, ◌<◌, ℕ, sym, ap, subst, ◌∙◌, length, slice_get, [], ◌∷◌, Some, None, arith, refl}
 use Rattle.std.specs.Option.{IfSome}
 use Rattle.std.proofs.lemmas.List.Elements.{All-head, All-tail}
 use Rattle.std.proofs.lemmas.Option.{get_or_from_slice_get, slice_get_within}
@@ -11,6 +11,7 @@ use Rattle.object_moves.specs.Rows.{AreWithin, row}
 use Rattle.object_moves.specs.declared.known.Two.TheVariants as W
 use Rattle.object_moves.proofs.KnownFacts.{read_at}
 use Rattle.object_moves.proofs.RowNew.{more_within, new_impossible, new_leads}
+use Rattle.object_moves.proofs.StateGrowth.{all_of, within_still}
 use Rattle.object_moves.proofs.table.MoveTable.make_new.Goals as goal
 
 pub returns-in-Ok-Some-Impossible-clause-impossible : goal.returns-in-Ok-Some-Impossible-clause-impossible
@@ -63,3 +64,57 @@ returns-in_ok-push-in-Ok-Some-To-clause-made c = λ ms _.
     in
     new_leads p xs ns ms o c.args.class (slice_get_within ns o s there) q next ys n m told.ensures.grows c.requires.within (ap (λ n. effect_new p e (state_at xs n)) (get_or_from_slice_get ns o s 0 there) ∙ is)
     ∙ ap (λ ks. Some (row ys ks ms)) (sym c.in_ok-push-in-Ok-Some-To.ensures.items)
+
+pub returns-in_default-clause-grows : goal.returns-in_default-clause-grows
+returns-in_default-clause-grows c = all_of (states c.args.self.now.table)
+
+pub returns-in_default-clause-program : goal.returns-in_default-clause-program
+returns-in_default-clause-program c = refl
+
+pub returns-then-name-len-clause-grows : goal.returns-then-name-len-clause-grows
+returns-then-name-len-clause-grows c = all_of (states c.args.self.now.table)
+
+pub returns-then-name-len-clause-program : goal.returns-then-name-len-clause-program
+returns-then-name-len-clause-program c = refl
+
+pub returns-in-Err-clause-grows : goal.returns-in-Err-clause-grows
+returns-in-Err-clause-grows c = c.new.ensures.grows
+
+pub returns-in-Err-clause-program : goal.returns-in-Err-clause-program
+returns-in-Err-clause-program c = c.new.ensures.program
+
+pub returns-in-Ok-None-clause-grows : goal.returns-in-Ok-None-clause-grows
+returns-in-Ok-None-clause-grows c = c.new.ensures.grows
+
+pub returns-in-Ok-None-clause-program : goal.returns-in-Ok-None-clause-program
+returns-in-Ok-None-clause-program c = c.new.ensures.program
+
+pub returns-in-Ok-Some-Impossible-clause-grows : goal.returns-in-Ok-Some-Impossible-clause-grows
+returns-in-Ok-Some-Impossible-clause-grows c = c.new.ensures.grows
+
+pub returns-in-Ok-Some-Impossible-clause-program : goal.returns-in-Ok-Some-Impossible-clause-program
+returns-in-Ok-Some-Impossible-clause-program c = c.new.ensures.program
+
+pub returns-in_err-push-in-Ok-Some-To-clause-grows : goal.returns-in_err-push-in-Ok-Some-To-clause-grows
+returns-in_err-push-in-Ok-Some-To-clause-grows c = c.new.ensures.grows
+
+pub returns-in_err-push-in-Ok-Some-To-clause-program : goal.returns-in_err-push-in-Ok-Some-To-clause-program
+returns-in_err-push-in-Ok-Some-To-clause-program c = c.new.ensures.program
+
+pub returns-in_ok-push-in-Ok-Some-To-clause-grows : goal.returns-in_ok-push-in-Ok-Some-To-clause-grows
+returns-in_ok-push-in-Ok-Some-To-clause-grows c = c.new.ensures.grows
+
+pub returns-in_ok-push-in-Ok-Some-To-clause-program : goal.returns-in_ok-push-in-Ok-Some-To-clause-program
+returns-in_ok-push-in-Ok-Some-To-clause-program c = c.new.ensures.program
+
+pub returns-in_default-clause-within : goal.returns-in_default-clause-within
+returns-in_default-clause-within c = c.requires.within
+
+pub returns-then-name-len-clause-within : goal.returns-then-name-len-clause-within
+returns-then-name-len-clause-within c = c.requires.within
+
+pub returns-in-Ok-None-clause-within : goal.returns-in-Ok-None-clause-within
+returns-in-Ok-None-clause-within c = within_still (states c.args.self.now.table) (states c.new.new.self.table) c.args.numbers.now.items c.new.ensures.grows c.requires.within
+
+pub returns-in-Ok-Some-Impossible-clause-within : goal.returns-in-Ok-Some-Impossible-clause-within
+returns-in-Ok-Some-Impossible-clause-within c = within_still (states c.args.self.now.table) (states c.new.new.self.table) c.args.numbers.now.items c.new.ensures.grows c.requires.within

@@ -1,4 +1,4 @@
-use Rattle.std.proofs.Common.{◌≡◌, ◌<◌, ap, subst, ◌∙◌, length, slice_get, [], Some, None}
+use Rattle.std.proofs.Common.{◌≡◌, ◌<◌, ap, subst, ◌∙◌, length, slice_get, [], Some, None, refl}
 use Rattle.std.specs.Option.{IfSome}
 use Rattle.std.proofs.lemmas.List.Elements.{All-head}
 use Rattle.std.proofs.lemmas.Option.{get_or_from_slice_get, slice_get_within}
@@ -10,6 +10,7 @@ use Rattle.object_moves.specs.Rows.{AreWithin}
 use Rattle.object_moves.specs.declared.known.One.TheVariants as O
 use Rattle.object_moves.proofs.KnownFacts.{read_at}
 use Rattle.object_moves.proofs.RowMoves.{set_within, solo_impossible, solo_leads}
+use Rattle.object_moves.proofs.StateGrowth.{all_of, within_still}
 use Rattle.object_moves.proofs.table.MoveTable.make_one.Goals as goal
 
 pub returns-in-Ok-Some-Impossible-clause-impossible : goal.returns-in-Ok-Some-Impossible-clause-impossible
@@ -49,3 +50,42 @@ returns-in-Ok-Some-To-clause-made c = λ ms _.
     let told = c.in-Ok-Some-To in
     let is : effect_one p e (state_at xs s) ≡ Some (state_at ys told.to) = subst (λ r. IfSome r (λ m. effect_one p e (state_at xs s) ≡ one_of ys m)) (told.field-0-is ∙ ap Some told.field-0-0-is) told.ensures.is in
     solo_leads p xs ns ms ys o told.to c.args.act told.ensures.grows c.requires.within (slice_get_within ns o s there) (ap (λ n. effect_one p e (state_at xs n)) (get_or_from_slice_get ns o s 0 there) ∙ is)
+
+pub returns-in_default-clause-grows : goal.returns-in_default-clause-grows
+returns-in_default-clause-grows c = all_of (states c.args.self.now.table)
+
+pub returns-in_default-clause-program : goal.returns-in_default-clause-program
+returns-in_default-clause-program c = refl
+
+pub returns-in-Err-clause-grows : goal.returns-in-Err-clause-grows
+returns-in-Err-clause-grows c = c.one.ensures.grows
+
+pub returns-in-Err-clause-program : goal.returns-in-Err-clause-program
+returns-in-Err-clause-program c = c.one.ensures.program
+
+pub returns-in-Ok-None-clause-grows : goal.returns-in-Ok-None-clause-grows
+returns-in-Ok-None-clause-grows c = c.one.ensures.grows
+
+pub returns-in-Ok-None-clause-program : goal.returns-in-Ok-None-clause-program
+returns-in-Ok-None-clause-program c = c.one.ensures.program
+
+pub returns-in-Ok-Some-Impossible-clause-grows : goal.returns-in-Ok-Some-Impossible-clause-grows
+returns-in-Ok-Some-Impossible-clause-grows c = c.one.ensures.grows
+
+pub returns-in-Ok-Some-Impossible-clause-program : goal.returns-in-Ok-Some-Impossible-clause-program
+returns-in-Ok-Some-Impossible-clause-program c = c.one.ensures.program
+
+pub returns-in-Ok-Some-To-clause-grows : goal.returns-in-Ok-Some-To-clause-grows
+returns-in-Ok-Some-To-clause-grows c = c.one.ensures.grows
+
+pub returns-in-Ok-Some-To-clause-program : goal.returns-in-Ok-Some-To-clause-program
+returns-in-Ok-Some-To-clause-program c = c.one.ensures.program
+
+pub returns-in_default-clause-within : goal.returns-in_default-clause-within
+returns-in_default-clause-within c = c.requires.within
+
+pub returns-in-Ok-None-clause-within : goal.returns-in-Ok-None-clause-within
+returns-in-Ok-None-clause-within c = within_still (states c.args.self.now.table) (states c.one.new.self.table) c.args.numbers.now.items c.one.ensures.grows c.requires.within
+
+pub returns-in-Ok-Some-Impossible-clause-within : goal.returns-in-Ok-Some-Impossible-clause-within
+returns-in-Ok-Some-Impossible-clause-within c = within_still (states c.args.self.now.table) (states c.one.new.self.table) c.args.numbers.now.items c.one.ensures.grows c.requires.within

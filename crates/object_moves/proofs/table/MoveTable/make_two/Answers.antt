@@ -1,4 +1,4 @@
-use Rattle.std.proofs.Common.{◌≡◌, ◌<◌, ℕ, ap, ap₂, subst, ◌∙◌, length, slice_get, [], ◌∷◌, Some, None}
+use Rattle.std.proofs.Common.{◌≡◌, ◌<◌, ℕ, ap, ap₂, subst, ◌∙◌, length, slice_get, [], ◌∷◌, Some, None, refl}
 use Rattle.std.specs.Option.{IfSome}
 use Rattle.std.proofs.lemmas.List.Elements.{All-head, All-tail}
 use Rattle.std.proofs.lemmas.Option.{get_or_from_slice_get, slice_get_within}
@@ -11,6 +11,7 @@ use Rattle.object_moves.specs.Rows.{AreWithin}
 use Rattle.object_moves.specs.declared.known.Two.TheVariants as W
 use Rattle.object_moves.proofs.KnownFacts.{read_at}
 use Rattle.object_moves.proofs.RowMoves.{duo_impossible, duo_leads, set_both_within}
+use Rattle.object_moves.proofs.StateGrowth.{all_of, within_still}
 use Rattle.object_moves.proofs.table.MoveTable.make_two.Goals as goal
 
 pub returns-in-Ok-Some-Impossible-clause-impossible : goal.returns-in-Ok-Some-Impossible-clause-impossible
@@ -74,3 +75,69 @@ returns-in-Ok-Some-To-clause-made c = λ _.
     duo_leads p xs ns ms ys b o n k a (c.waits.ensures c.if-waits.false) told.ensures.grows c.requires.within (slice_get_within ns b s there) (slice_get_within ns o t here) c.if-receiver-caller.false (All-head P n (k ∷ []) within)
     (All-head P k [] (All-tail P n (k ∷ []) within))
     (ap₂ (λ n m. effect_two p (duo_label b o a) (state_at xs n) (state_at xs m)) (get_or_from_slice_get ns b s 0 there) (get_or_from_slice_get ns o t 0 here) ∙ is)
+
+pub returns-in_default-clause-grows : goal.returns-in_default-clause-grows
+returns-in_default-clause-grows c = all_of (states c.args.self.now.table)
+
+pub returns-in_default-clause-program : goal.returns-in_default-clause-program
+returns-in_default-clause-program c = refl
+
+pub returns-in_default-get-clause-grows : goal.returns-in_default-get-clause-grows
+returns-in_default-get-clause-grows c = all_of (states c.args.self.now.table)
+
+pub returns-in_default-get-clause-program : goal.returns-in_default-get-clause-program
+returns-in_default-get-clause-program c = refl
+
+pub returns-then-receiver-caller-clause-grows : goal.returns-then-receiver-caller-clause-grows
+returns-then-receiver-caller-clause-grows c = all_of (states c.args.self.now.table)
+
+pub returns-then-receiver-caller-clause-program : goal.returns-then-receiver-caller-clause-program
+returns-then-receiver-caller-clause-program c = refl
+
+pub returns-then-waits-clause-grows : goal.returns-then-waits-clause-grows
+returns-then-waits-clause-grows c = all_of (states c.args.self.now.table)
+
+pub returns-then-waits-clause-program : goal.returns-then-waits-clause-program
+returns-then-waits-clause-program c = refl
+
+pub returns-in-Err-clause-grows : goal.returns-in-Err-clause-grows
+returns-in-Err-clause-grows c = c.two.ensures.grows
+
+pub returns-in-Err-clause-program : goal.returns-in-Err-clause-program
+returns-in-Err-clause-program c = c.two.ensures.program
+
+pub returns-in-Ok-None-clause-grows : goal.returns-in-Ok-None-clause-grows
+returns-in-Ok-None-clause-grows c = c.two.ensures.grows
+
+pub returns-in-Ok-None-clause-program : goal.returns-in-Ok-None-clause-program
+returns-in-Ok-None-clause-program c = c.two.ensures.program
+
+pub returns-in-Ok-Some-Impossible-clause-grows : goal.returns-in-Ok-Some-Impossible-clause-grows
+returns-in-Ok-Some-Impossible-clause-grows c = c.two.ensures.grows
+
+pub returns-in-Ok-Some-Impossible-clause-program : goal.returns-in-Ok-Some-Impossible-clause-program
+returns-in-Ok-Some-Impossible-clause-program c = c.two.ensures.program
+
+pub returns-in-Ok-Some-To-clause-grows : goal.returns-in-Ok-Some-To-clause-grows
+returns-in-Ok-Some-To-clause-grows c = c.two.ensures.grows
+
+pub returns-in-Ok-Some-To-clause-program : goal.returns-in-Ok-Some-To-clause-program
+returns-in-Ok-Some-To-clause-program c = c.two.ensures.program
+
+pub returns-in_default-clause-within : goal.returns-in_default-clause-within
+returns-in_default-clause-within c = c.requires.within
+
+pub returns-in_default-get-clause-within : goal.returns-in_default-get-clause-within
+returns-in_default-get-clause-within c = c.requires.within
+
+pub returns-then-receiver-caller-clause-within : goal.returns-then-receiver-caller-clause-within
+returns-then-receiver-caller-clause-within c = c.requires.within
+
+pub returns-then-waits-clause-within : goal.returns-then-waits-clause-within
+returns-then-waits-clause-within c = c.requires.within
+
+pub returns-in-Ok-None-clause-within : goal.returns-in-Ok-None-clause-within
+returns-in-Ok-None-clause-within c = within_still (states c.args.self.now.table) (states c.two.new.self.table) c.args.numbers.now.items c.two.ensures.grows c.requires.within
+
+pub returns-in-Ok-Some-Impossible-clause-within : goal.returns-in-Ok-Some-Impossible-clause-within
+returns-in-Ok-Some-Impossible-clause-within c = within_still (states c.args.self.now.table) (states c.two.new.self.table) c.args.numbers.now.items c.two.ensures.grows c.requires.within
