@@ -80,18 +80,30 @@ pub fn read_whole<F: Files>(
     ensures same_texts { F.told files.new ≡ F.told files.old }
     ensures same_leave { F.may files.new ≡ F.may files.old }
 {
-    files.open_file(name)?;
-    let mut piece = zeros(alloc, PIECE)?;
+    match files.open_file(name) {
+        Ok(()) => {}
+        Err(Failed) => return Err(ReadFault::Failed),
+    }
+    let mut piece = match zeros(alloc, PIECE) {
+        Ok(piece) => piece,
+        Err(AllocError) => return Err(ReadFault::Memory),
+    };
     let mut text = Vec::new(alloc);
     loop {
-        let taken = files.read(&mut piece)?;
+        let taken = match files.read(&mut piece) {
+            Ok(taken) => taken,
+            Err(Failed) => return Err(ReadFault::Failed),
+        };
         if taken == 0 {
             return Ok(text);
         }
         if taken > limit - text.len() {
             return Err(ReadFault::TooLong);
         }
-        text.extend_from_slice(&piece[..taken])?;
+        match text.extend_from_slice(&piece[..taken]) {
+            Ok(()) => {}
+            Err(AllocError) => return Err(ReadFault::Memory),
+        }
     }
 }
 

@@ -2,8 +2,8 @@
 use Rattle.std.proofs.Common.{◌≡◌, ◌+◌, ◌-◌, ◌≤◌, ◌++◌, true, length, option_map}
 use Rattle.pool_outside.proofs.calls.read_whole.Given as goal
 
-abbrev pub invariant-loop-text : goal.invariant-loop-text
-invariant-loop-text g l =
+abbrev pub invariant-loop-taken : goal.invariant-loop-taken
+invariant-loop-taken g l =
     let files = g.F.Files in
     record {
       so_far : files.told l.fn.files l.name ≡ option_map (λ r. l.text.items ++ r) (files.rest l.files);
@@ -17,5 +17,5 @@ invariant-loop-text g l =
       may : files.may l.files ≡ files.may l.fn.files;
     }
 
-abbrev pub decreases-loop-text : goal.decreases-loop-text
-decreases-loop-text g l = l.limit - length l.text.items
+abbrev pub decreases-loop-taken : goal.decreases-loop-taken
+decreases-loop-taken g l = l.limit - length l.text.items
