@@ -1,5 +1,14 @@
 """Asks a built program about a text, and counts what is told right and wrong."""
+import functools
+import os
 import subprocess
+import sys
+import tempfile
+from concurrent.futures import ProcessPoolExecutor
+
+TOP = os.path.dirname(os.path.dirname(os.path.dirname(os.path.realpath(__file__))))
+# So many cases of tables are tried at once, and each call of them may take so many seconds.
+JOBS, PATIENCE = 4, 600
 
 # How many comparisons were right, and how many were not.
 counts = {True: 0, False: 0}
@@ -16,6 +25,52 @@ def ended():
     """Writes the last line of a check, and gives its status."""
     print(f"{counts[True]} passed, {counts[False]} failed")
     return 1 if counts[False] else 0
+
+
+def pool_and_tables(script, words, folder):
+    """The path of `pool`, and the names of tables in this folder: those among the words of a script, or all. Ends the script where a word is
+    wrong."""
+    names = sorted(name.removesuffix(".txt") for name in os.listdir(f"{TOP}/{folder}") if name.endswith(".txt"))
+    paths, wrong = [word for word in words if word not in names], ""
+    pool = os.path.abspath(paths[0] if paths else f"{TOP}/pool")
+    if len(paths) > 1:
+        wrong = f"usage: {script} [POOL] [TABLE..]"
+    # (without words the program ends with this status, and ./pool was built)
+    elif not os.path.isfile(pool) or subprocess.run([pool], capture_output=bool(paths)).returncode != 64:
+        wrong = f"{script}: {pool} is no such program"
+    if wrong:
+        print(wrong, file=sys.stderr)
+        sys.exit(2)
+    return pool, [word for word in words if word in names] or names
+
+
+def short(text):
+    """A text as a failure tells it."""
+    return repr(text if len(text) <= 400 else text[:200] + b" [..] " + text[-200:])[1:]
+
+
+def call(pool, folder, words, **texts):
+    """Runs `pool` with these words in a folder whose files have these names and texts."""
+    for name, text in texts.items():
+        with open(f"{folder}/{name}", "wb") as it:
+            it.write(text)
+    return subprocess.run([pool, *words], cwd=folder, stdin=subprocess.DEVNULL, capture_output=True, timeout=PATIENCE)
+
+
+def tried(pool, folder, case):
+    """What differs in a case, or nothing. It runs in a folder of its own."""
+    try:
+        with tempfile.TemporaryDirectory(dir=folder) as own:
+            return case.difference(pool, own)
+    except subprocess.TimeoutExpired:
+        return f"a call has not ended after {PATIENCE} seconds"
+
+
+def try_cases(pool, cases):
+    """Tries the cases of tables: each has its name, its row, and a function that gives what differs."""
+    with tempfile.TemporaryDirectory() as folder, ProcessPoolExecutor(JOBS) as jobs:
+        for case, difference in zip(cases, jobs.map(functools.partial(tried, pool, folder), cases, chunksize=4)):
+            told(not difference, f"{case.name}: {case.row[:200]}\n    {difference}")
 
 
 class Tried:
