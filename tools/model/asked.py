@@ -4,6 +4,7 @@ import os
 import subprocess
 import sys
 import tempfile
+import threading
 from concurrent.futures import ProcessPoolExecutor
 
 TOP = os.path.dirname(os.path.dirname(os.path.dirname(os.path.realpath(__file__))))
@@ -49,12 +50,21 @@ def short(text):
     return repr(text if len(text) <= 400 else text[:200] + b" [..] " + text[-200:])[1:]
 
 
-def call(pool, folder, words, **texts):
-    """Runs `pool` with these words in a folder whose files have these names and texts."""
+def call(pool, folder, words, lines=None, **texts):
+    """Runs `pool` with these words in a folder whose files have these names and texts. With a number of lines it is ended behind the first line and
+    so many more."""
     for name, text in texts.items():
         with open(f"{folder}/{name}", "wb") as it:
             it.write(text)
-    return subprocess.run([pool, *words], cwd=folder, stdin=subprocess.DEVNULL, capture_output=True, timeout=PATIENCE)
+    if lines is None:
+        return subprocess.run([pool, *words], cwd=folder, stdin=subprocess.DEVNULL, capture_output=True, timeout=PATIENCE)
+    with subprocess.Popen([pool, *words], cwd=folder, stdin=subprocess.DEVNULL, stdout=subprocess.PIPE, stderr=subprocess.DEVNULL) as process:
+        alarm = threading.Timer(PATIENCE, process.kill)
+        alarm.start()
+        output = b"".join(process.stdout.readline() for _ in range(lines + 1))
+        alarm.cancel()
+        process.kill()
+    return subprocess.CompletedProcess(words, process.returncode, output, b"")
 
 
 def tried(pool, folder, case):
