@@ -16,6 +16,10 @@ use Rattle.pool_relation.specs.Action.{Object, method_of, action}
 use Rattle.pool_relation.specs.Configuration.{Configuration}
 use Rattle.pool_relation.specs.Transition.{without_fault, local_step, makes, calls, returns, waits_on, writes, fails, picked, posts, offer, refilled, done, returned, given, serving, new_object}
 
+-- the configuration without objects
+abbrev pub nothing : Configuration
+nothing = record { objects = []; messages = [] }
+
 -- the configuration in which the object is alone
 abbrev pub alone : ℕ → Object → Configuration
 alone o x = record { objects = (o, x) ∷ []; messages = [] }

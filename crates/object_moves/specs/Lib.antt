@@ -2,6 +2,7 @@
 pub mod Effects
 pub mod Followed
 pub mod Known
+pub mod Led
 pub mod Rows
 pub mod SameObjects
 pub mod Tables

@@ -9,6 +9,7 @@ mod labels;
 mod mails;
 mod rows;
 mod small;
+mod steps;
 mod table;
 
 pub use known::Lead;

@@ -1,11 +1,12 @@
 //! Configurations of one or two objects, in which transitions are made.
-ghost use Rattle.std.specs.Prelude.{◌≡◌, Some, IfOk, IfSome};
+ghost use Rattle.std.specs.Prelude.{◌≡◌, Some, IfOk, IfSome, OnOk};
 ghost use Rattle.pool_syntax.specs.TreeOf.{program_of};
 ghost use Rattle.pool_relation.specs.Action.{Object};
+ghost use Rattle.pool_relation.specs.Configuration.{put_object};
 ghost use Rattle.pool_semantics.specs.Plains.{configuration};
 ghost use Rattle.stepper_objects.specs.ObjectStates.{thing_object};
 ghost use Rattle.pool_semantics.specs.Mails.{message_of};
-ghost use Rattle.object_moves.specs.Effects.{alone, strolled, together, with_message};
+ghost use Rattle.object_moves.specs.Effects.{alone, nothing, strolled, with_message};
 
 use pool_semantics::{Mail, State, post};
 use pool_syntax::Program;
@@ -17,61 +18,63 @@ use stepper_objects::object_state::ObjectState;
 /// The largest number of local transitions that an object makes one after another.
 pub const MOST: u32 = 1_000_000;
 
-/// The configuration in which a copy of this object is alone. An error means out of memory.
-pub fn alone<'a>(
-    alloc: Global,
-    program: &'a Program,
-    name: u32,
-    thing: &ObjectState<'a>,
-) -> Result<State<'a>, AllocError>
-    ensures program { IfOk result (λ s. program_of s.program.now ≡ program_of program.now) }
-    ensures objects { IfOk result (λ s. configuration s ≡ alone name (thing_object thing.now)) }
+/// A configuration of this program without objects.
+pub fn empty<'a>(alloc: Global, program: &'a Program) -> State<'a>
+    ensures program { program_of result.program.now ≡ program_of program.now }
+    ensures none { configuration result ≡ nothing }
 {
-    let copied = copy(alloc, thing)?;
-    let mut objects = BTreeMap::new(alloc);
-    objects.insert(name, copied)?;
-    Ok(State {
+    State {
         alloc,
         program,
-        objects,
+        objects: BTreeMap::new(alloc),
         messages: BTreeMap::new(alloc),
-    })
+    }
 }
 
-/// The configuration with copies of these two objects. An error means out of memory.
-pub fn together<'a>(
-    alloc: Global,
-    program: &'a Program,
+/// Adds a copy of this object under this name. An error means out of memory.
+pub fn add_copy<'a>(
+    small: &mut State<'a>,
+    name: u32,
+    thing: &ObjectState<'a>,
+) -> Result<(), AllocError>
+    ensures program { small.new.program ≡ small.old.program }
+    ensures objects { OnOk result (configuration small.new ≡ put_object (configuration small.old) name (thing_object thing.now)) }
+{
+    let copied = copy(small.alloc, thing)?;
+    small.objects.insert(name, copied)?;
+    Ok(())
+}
+
+/// Adds copies of these two objects. An error means out of memory.
+pub fn add_both<'a>(
+    small: &mut State<'a>,
     first: u32,
     one: &ObjectState<'a>,
     second: u32,
     other: &ObjectState<'a>,
-) -> Result<State<'a>, AllocError>
-    ensures program { IfOk result (λ s. program_of s.program.now ≡ program_of program.now) }
-    ensures objects { IfOk result (λ s. configuration s ≡ together first (thing_object one.now) second (thing_object other.now)) }
+) -> Result<(), AllocError>
+    ensures program { small.new.program ≡ small.old.program }
+    ensures objects { OnOk result (configuration small.new ≡ put_object (put_object (configuration small.old) first (thing_object one.now)) second (thing_object other.now)) }
 {
-    let mut small = alone(alloc, program, first, one)?;
-    let copied = copy(alloc, other)?;
-    small.objects.insert(second, copied)?;
-    Ok(small)
+    add_copy(small, first, one)?;
+    add_copy(small, second, other)
 }
 
-/// The configuration with a copy of this object under two names, and with a message from the second to the first. If the
-/// names are the same, there is one object. An error means out of memory.
-pub fn with_message<'a>(
-    alloc: Global,
-    program: &'a Program,
+/// Adds a copy of this object under two names, and a message from the second to the first. If the names are the same,
+/// there is one object. An error means out of memory.
+pub fn add_with_message<'a>(
+    small: &mut State<'a>,
     first: u32,
     thing: &ObjectState<'a>,
     second: u32,
     mail: Mail,
-) -> Result<State<'a>, AllocError>
-    ensures program { IfOk result (λ s. program_of s.program.now ≡ program_of program.now) }
-    ensures objects { IfOk result (λ s. configuration s ≡ with_message first (thing_object thing.now) second (message_of mail)) }
+) -> Result<(), AllocError>
+    requires { configuration small.old ≡ nothing }
+    ensures program { small.new.program ≡ small.old.program }
+    ensures objects { OnOk result (configuration small.new ≡ with_message first (thing_object thing.now) second (message_of mail)) }
 {
-    let mut small = together(alloc, program, first, thing, second, thing)?;
-    post(alloc, &mut small.messages, second, first, mail)?;
-    Ok(small)
+    add_both(small, first, thing, second, thing)?;
+    post(small.alloc, &mut small.messages, second, first, mail)
 }
 
 /// Makes local transitions of an object that is alone, until none is possible, and returns how many they were. None

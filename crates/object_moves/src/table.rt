@@ -5,6 +5,8 @@ ghost use Rattle.pool_syntax.specs.TreeOf.{program_of};
 ghost use Rattle.search_states.specs.States.{states};
 ghost use Rattle.stepper_objects.specs.ObjectStates.{thing_object};
 ghost use Rattle.object_moves.specs.Effects.{effect_mail, effect_new, effect_one, effect_two, strolled};
+ghost use Rattle.pool_semantics.specs.Plains.{configuration};
+ghost use Rattle.object_moves.specs.Led.{IsAtRest};
 ghost use Rattle.object_moves.specs.Rows.{AreWithin};
 ghost use Rattle.object_moves.specs.Known.{IsKnownMail, IsKnownNew, IsKnownOne, IsKnownTwo, IsKnownRest, birth_label, duo_label, numbers_of_one, numbers_of_two, one_of, parcel_label, solo_label, state_at, two_of};
 
@@ -16,8 +18,8 @@ use crate::labels::{
     birth_label, duo_label, mark_mail, mark_new, mark_one, mark_rest, mark_two, parcel_label,
     same_birth, same_duo, same_pair, same_parcel, same_solo, solo_label,
 };
-use crate::small::{alone, stroll, together, with_message};
-use pool_semantics::redex_args;
+use crate::small::{add_both, add_copy, add_with_message, empty, stroll};
+use pool_semantics::{State, redex_args};
 use pool_syntax::Program;
 use search_states::StateTable;
 use std::alloc::{AllocError, Global};
@@ -168,17 +170,9 @@ impl<'a> MoveTable<'a> {
         let Some(thing) = self.table.get(state) else {
             unreachable!();
         };
-        let mut small = alone(self.alloc, self.program, object, thing)?;
-        if !small.step(&solo_label(object, act))? {
-            return Ok(Some(One::Impossible));
-        }
-        let Some(after) = small.objects.get(&object) else {
-            return Ok(None);
-        };
-        match self.number_of(after)? {
-            Some(to) => Ok(Some(One::To(to))),
-            None => Ok(None),
-        }
+        let mut small = empty(self.alloc, self.program);
+        add_copy(&mut small, object, thing)?;
+        self.step_one(&mut small, object, &solo_label(object, act))
     }
 
     /// Keeps what a transition makes of an object, if there is room for it. An error means out of memory.
@@ -252,18 +246,9 @@ impl<'a> MoveTable<'a> {
         let Some(thing) = self.table.get(state) else {
             unreachable!();
         };
-        let mail = act.mail();
-        let mut small = with_message(self.alloc, self.program, object, thing, act.other, mail)?;
-        if !small.step(&parcel_label(object, act))? {
-            return Ok(Some(One::Impossible));
-        }
-        let Some(after) = small.objects.get(&object) else {
-            return Ok(None);
-        };
-        match self.number_of(after)? {
-            Some(to) => Ok(Some(One::To(to))),
-            None => Ok(None),
-        }
+        let mut small = empty(self.alloc, self.program);
+        add_with_message(&mut small, object, thing, act.other, act.mail())?;
+        self.step_one(&mut small, object, &parcel_label(object, act))
     }
 
     /// Keeps what a message makes of an object, if there is room for it. An error means out of memory.
@@ -333,23 +318,9 @@ impl<'a> MoveTable<'a> {
         let Some(thing) = self.table.get(birth.state) else {
             unreachable!();
         };
-        let mut small = alone(self.alloc, self.program, birth.object, thing)?;
-        if !small.step(&birth_label(birth))? {
-            return Ok(Some(Two::Impossible));
-        }
-        let Some(after) = small.objects.get(&birth.object) else {
-            return Ok(None);
-        };
-        let Some(maker) = self.number_of(after)? else {
-            return Ok(None);
-        };
-        let Some(made) = small.objects.get(&birth.name) else {
-            return Ok(None);
-        };
-        match self.number_of(made)? {
-            Some(new) => Ok(Some(Two::To(maker, new))),
-            None => Ok(None),
-        }
+        let mut small = empty(self.alloc, self.program);
+        add_copy(&mut small, birth.object, thing)?;
+        self.step_two(&mut small, birth.object, birth.name, &birth_label(birth))
     }
 
     /// Keeps what a transition that makes an object leads to, if there is room for it. An error means out of memory.
@@ -418,30 +389,10 @@ impl<'a> MoveTable<'a> {
         let Some(asking) = self.table.get(pair.asking) else {
             unreachable!();
         };
-        let mut small = together(
-            self.alloc,
-            self.program,
-            pair.caller,
-            asking,
-            pair.receiver,
-            serving,
-        )?;
-        if !small.step(&duo_label(pair.receiver, pair.caller, act))? {
-            return Ok(Some(Two::Impossible));
-        }
-        let Some(served) = small.objects.get(&pair.receiver) else {
-            return Ok(None);
-        };
-        let Some(receiver) = self.number_of(served)? else {
-            return Ok(None);
-        };
-        let Some(asked) = small.objects.get(&pair.caller) else {
-            return Ok(None);
-        };
-        match self.number_of(asked)? {
-            Some(caller) => Ok(Some(Two::To(receiver, caller))),
-            None => Ok(None),
-        }
+        let mut small = empty(self.alloc, self.program);
+        add_both(&mut small, pair.caller, asking, pair.receiver, serving)?;
+        let label = duo_label(pair.receiver, pair.caller, act);
+        self.step_two(&mut small, pair.receiver, pair.caller, &label)
     }
 
     /// Keeps what an answer or a return makes of two objects, if there is room for it. An error means out of memory.
@@ -511,19 +462,19 @@ impl<'a> MoveTable<'a> {
         Ok(Next::Sends(at))
     }
 
-    /// Makes the local transitions of the object in this state. None if they are too many, or if the table of states is
-    /// full. An error means out of memory.
-    fn compute_rest(&mut self, object: u32, state: u32) -> Result<Option<KnownRest>, AllocError>
-        requires { state < length (states self.old.table) }
+    /// Makes the local transitions of the object in this configuration, where it has this state. None if they are too many,
+    /// or if the table of states is full. An error means out of memory.
+    fn rest_after(
+        &mut self,
+        small: &mut State<'a>,
+        object: u32,
+        state: u32,
+    ) -> Result<Option<KnownRest>, AllocError>
         ensures grows { take (length (states self.old.table)) (states self.new.table) ≡ states self.old.table }
         ensures program { self.new.program ≡ self.old.program }
-        ensures is { IfOk result (λ o. IfSome o (λ k. IsKnownRest (program_of self.old.program.now) (states self.new.table) k × (k.object ≡ object) × (k.state ≡ state))) }
+        ensures is { IfOk result (λ o. IfSome o (λ k. IsAtRest (program_of small.old.program.now) (configuration small.old) object state (states self.new.table) k)) }
     {
-        let Some(thing) = self.table.get(state) else {
-            unreachable!();
-        };
-        let mut small = alone(self.alloc, self.program, object, thing)?;
-        let Some(steps) = stroll(&mut small, object)? else {
+        let Some(steps) = stroll(small, object)? else {
             return Ok(None);
         };
         let Some(after) = small.objects.get(&object) else {
@@ -543,6 +494,22 @@ impl<'a> MoveTable<'a> {
             to,
             next,
         }))
+    }
+
+    /// Makes the local transitions of the object in this state. None if they are too many, or if the table of states is
+    /// full. An error means out of memory.
+    fn compute_rest(&mut self, object: u32, state: u32) -> Result<Option<KnownRest>, AllocError>
+        requires { state < length (states self.old.table) }
+        ensures grows { take (length (states self.old.table)) (states self.new.table) ≡ states self.old.table }
+        ensures program { self.new.program ≡ self.old.program }
+        ensures is { IfOk result (λ o. IfSome o (λ k. IsKnownRest (program_of self.old.program.now) (states self.new.table) k × (k.object ≡ object) × (k.state ≡ state))) }
+    {
+        let Some(thing) = self.table.get(state) else {
+            unreachable!();
+        };
+        let mut small = empty(self.alloc, self.program);
+        add_copy(&mut small, object, thing)?;
+        self.rest_after(&mut small, object, state)
     }
 
     /// Keeps where local transitions lead, if there is room for it. An error means out of memory.

@@ -1,149 +1,52 @@
-use Rattle.std.proofs.Common.{◌≡◌, ◌<◌, refl, sym, ap, subst, ◌∙◌, length, slice_get, Some, arith}
-use Rattle.std.specs.Ordering.{nat_cmp}
-use Rattle.std.specs.Option.{IfSome, option_copied}
-use Rattle.std.specs.BTreeMap.{get}
-use Rattle.std.proofs.lemmas.Option.{slice_get_within}
+use Rattle.std.proofs.Common.{◌≡◌, refl, sym, ap, ◌∙◌}
 use Rattle.pool_syntax.specs.TreeOf.{program_of}
+use Rattle.pool_relation.specs.Configuration.{Configuration, put_object}
+use Rattle.pool_semantics.specs.Plains.{configuration}
 use Rattle.search_states.specs.States.{states}
 use Rattle.stepper_objects.specs.ObjectStates.{thing_object}
 use Rattle.object_moves.specs.Effects.{alone, effect_new}
-use Rattle.object_moves.specs.Known.{birth_label, state_at}
-use Rattle.object_moves.proofs.KnownFacts.{both_within, failed_as, made_as, object_in, state_there}
-use Rattle.object_moves.proofs.SmallNew.{birth_failed, birth_made}
-use Rattle.object_moves.proofs.StateGrowth.{all_of, front_of_front, no_shorter, state_still}
+use Rattle.object_moves.specs.Known.{birth_label, numbers_of_two, state_at, two_of}
+use Rattle.object_moves.specs.Led.{AreLed}
+use Rattle.object_moves.specs.Rows.{AreWithin}
+use Rattle.object_moves.specs.declared.known.Two.{Two}
+use Rattle.object_moves.proofs.KnownFacts.{state_there}
+use Rattle.object_moves.proofs.LedFacts.{birth_led, both_led_as, both_led_within, each_told}
+use Rattle.object_moves.proofs.StateGrowth.{all_of}
 use Rattle.object_moves.proofs.table.MoveTable.compute_new.Goals as goal
 
-pub returns-then-not-branch-clause-is : goal.returns-then-not-branch-clause-is
-returns-then-not-branch-clause-is c =
-    let p = program_of c.args.self.now.program.now in
-    let xs = states c.args.self.now.table in
-    let b = c.args.birth in
-    let x = thing_object c.in-Some.thing.now in
-    let none =
-    failed_as c.in_ok-small.small c.step.new.self c.birth_label.result (birth_label b) p (alone b.object x) c.in_ok-small.ensures.program c.in_ok-small.ensures.objects c.birth_label.ensures c.in_ok-step.field-0
-    c.in_ok-step.ensures.step c.if-not-branch.true
-    in
-    ap (effect_new p (birth_label b)) (state_there xs b.state x (sym c.in-Some.ensures)) ∙ birth_failed p b x c.requires.apart none
-
-pub returns-in-Some-3-clause-is : goal.returns-in-Some-3-clause-is
-returns-in-Some-3-clause-is c =
-    let p = program_of c.args.self.now.program.now in
-    let xs = states c.args.self.now.table in
-    let ys = states c.number_of.new.self.table in
-    let zs = states c.number_of-2.new.self.table in
-    let b = c.args.birth in
-    let x = thing_object c.in-Some.thing.now in
-    let t = c.in-Some-get.after.now in
-    let u = c.in-Some-get-2.made.now in
-    let n = c.in-Some-2.maker in
-    let m = c.in-Some-3.new in
-    let d = c.step.new.self in
-    let made =
-    made_as c.in_ok-small.small d c.birth_label.result (birth_label b) p (alone b.object x) c.in_ok-small.ensures.program c.in_ok-small.ensures.objects c.birth_label.ensures c.in_ok-step.field-0 c.in_ok-step.ensures.step
-    c.if-not-branch.false
-    in
-    let maker : get nat_cmp d.objects b.object ≡ Some t = sym c.get-2.ensures.value ∙ ap option_copied c.in-Some-get.is in
-    let new : get nat_cmp d.objects b.name ≡ Some u = sym c.get-3.ensures.value ∙ ap option_copied c.in-Some-get-2.is in
-    let at : slice_get ys n ≡ Some (thing_object t) = subst (λ r. IfSome r (λ n. slice_get ys n ≡ Some (thing_object t))) c.in-Some-2.is c.in_ok-maker.ensures.found in
-    let of : slice_get zs m ≡ Some (thing_object u) = subst (λ r. IfSome r (λ n. slice_get zs n ≡ Some (thing_object u))) c.in-Some-3.is c.in_ok-new.ensures.found in
-    ap (effect_new p (birth_label b)) (state_there xs b.state x (sym c.in-Some.ensures))
-    ∙ birth_made p b x c.requires.apart _ (thing_object t) (thing_object u) ys zs n m made (object_in d b.object t maker) (object_in d b.name u new) at of
-    ∙ ap (λ z. Some (z, state_at zs m)) (sym (state_still ys zs n c.number_of-2.ensures.grows (slice_get_within ys n (thing_object t) at)))
-
-pub returns-in-Some-3-clause-within : goal.returns-in-Some-3-clause-within
-returns-in-Some-3-clause-within c =
-    let ys = states c.number_of.new.self.table in
-    let zs = states c.number_of-2.new.self.table in
-    let n = c.in-Some-2.maker in
-    let m = c.in-Some-3.new in
-    let t = thing_object c.in-Some-get.after.now in
-    let u = thing_object c.in-Some-get-2.made.now in
-    let at : slice_get ys n ≡ Some t = subst (λ r. IfSome r (λ n. slice_get ys n ≡ Some t)) c.in-Some-2.is c.in_ok-maker.ensures.found in
-    let of : slice_get zs m ≡ Some u = subst (λ r. IfSome r (λ n. slice_get zs n ≡ Some u)) c.in-Some-3.is c.in_ok-new.ensures.found in
-    let first : n < length ys = slice_get_within ys n t at in
-    let longer = no_shorter ys zs c.number_of-2.ensures.grows in
-    both_within zs n m (omega arith) (slice_get_within zs m u of)
-
-pub returns-in_err-small-clause-grows : goal.returns-in_err-small-clause-grows
-returns-in_err-small-clause-grows c = all_of (states c.args.self.now.table)
-
-pub returns-in_err-small-clause-program : goal.returns-in_err-small-clause-program
-returns-in_err-small-clause-program c = refl
-
-pub returns-in_err-step-clause-grows : goal.returns-in_err-step-clause-grows
-returns-in_err-step-clause-grows c = all_of (states c.args.self.now.table)
-
-pub returns-in_err-step-clause-program : goal.returns-in_err-step-clause-program
-returns-in_err-step-clause-program c = refl
-
-pub returns-then-not-branch-clause-grows : goal.returns-then-not-branch-clause-grows
-returns-then-not-branch-clause-grows c = all_of (states c.args.self.now.table)
-
-pub returns-then-not-branch-clause-program : goal.returns-then-not-branch-clause-program
-returns-then-not-branch-clause-program c = refl
-
-pub returns-in_default-get-clause-grows : goal.returns-in_default-get-clause-grows
-returns-in_default-get-clause-grows c = all_of (states c.args.self.now.table)
-
-pub returns-in_default-get-clause-program : goal.returns-in_default-get-clause-program
-returns-in_default-get-clause-program c = refl
-
-pub returns-in_default-2-clause-grows : goal.returns-in_default-2-clause-grows
-returns-in_default-2-clause-grows c = c.number_of.ensures.grows
-
-pub returns-in_default-2-clause-program : goal.returns-in_default-2-clause-program
-returns-in_default-2-clause-program c = c.number_of.ensures.program
-
-pub returns-in_err-maker-clause-grows : goal.returns-in_err-maker-clause-grows
-returns-in_err-maker-clause-grows c = c.number_of.ensures.grows
-
-pub returns-in_err-maker-clause-program : goal.returns-in_err-maker-clause-program
-returns-in_err-maker-clause-program c = c.number_of.ensures.program
-
-pub returns-in_default-get-2-clause-grows : goal.returns-in_default-get-2-clause-grows
-returns-in_default-get-2-clause-grows c = c.number_of.ensures.grows
-
-pub returns-in_default-get-2-clause-program : goal.returns-in_default-get-2-clause-program
-returns-in_default-get-2-clause-program c = c.number_of.ensures.program
-
-pub returns-clause-grows : goal.returns-clause-grows
-returns-clause-grows c = front_of_front (states c.args.self.now.table) (states c.number_of.new.self.table) (states c.number_of-2.new.self.table) c.number_of.ensures.grows c.number_of-2.ensures.grows
-
-pub returns-clause-program : goal.returns-clause-program
-returns-clause-program c = c.number_of-2.ensures.program ∙ c.number_of.ensures.program
-
-pub returns-in-Some-3-clause-grows : goal.returns-in-Some-3-clause-grows
-returns-in-Some-3-clause-grows c = front_of_front (states c.args.self.now.table) (states c.number_of.new.self.table) (states c.number_of-2.new.self.table) c.number_of.ensures.grows c.number_of-2.ensures.grows
-
-pub returns-in-Some-3-clause-program : goal.returns-in-Some-3-clause-program
-returns-in-Some-3-clause-program c = c.number_of-2.ensures.program ∙ c.number_of.ensures.program
-
-pub returns-in_err-new-clause-grows : goal.returns-in_err-new-clause-grows
-returns-in_err-new-clause-grows c = front_of_front (states c.args.self.now.table) (states c.number_of.new.self.table) (states c.number_of-2.new.self.table) c.number_of.ensures.grows c.number_of-2.ensures.grows
-
-pub returns-in_err-new-clause-program : goal.returns-in_err-new-clause-program
-returns-in_err-new-clause-program c = c.number_of-2.ensures.program ∙ c.number_of.ensures.program
-
 pub returns-clause-is : goal.returns-clause-is
-returns-clause-is c = tt
+returns-clause-is c =
+    let p = program_of c.args.self.now.program.now in
+    let s = c.add_copy.new.small in
+    let q = program_of s.program.now in
+    let xs = states c.args.self.now.table in
+    let ys = states c.step_two.new.self.table in
+    let b = c.args.birth in
+    let x = thing_object c.in-Some.thing.now in
+    let l = c.birth_label.result in
+    let program : q ≡ p = ap (λ r. program_of r.now) c.add_copy.ensures.program ∙ c.empty-small.ensures.program in
+    let start : configuration s ≡ alone b.object x = c.in_ok-add_copy.ensures.objects ∙ ap (λ (d : Configuration). put_object d b.object x) c.empty-small.ensures.none in
+    each_told (AreLed q (configuration s) l b.object b.name ys) (λ (m : Two). effect_new p (birth_label b) (state_at xs b.state) ≡ two_of ys m)
+    (λ (m : Two) h. ap (effect_new p (birth_label b)) (state_there xs b.state x (sym c.in-Some.ensures))
+    ∙ birth_led p b x ys m c.requires.apart (both_led_as q p (configuration s) (alone b.object x) l (birth_label b) b.object b.name ys m program start c.birth_label.ensures h)) c.step_two.result c.step_two.ensures.is
 
 pub returns-clause-within : goal.returns-clause-within
-returns-clause-within c = tt
+returns-clause-within c =
+    let s = c.add_copy.new.small in
+    let q = program_of s.program.now in
+    let ys = states c.step_two.new.self.table in
+    let b = c.args.birth in
+    let l = c.birth_label.result in
+    each_told (AreLed q (configuration s) l b.object b.name ys) (λ (m : Two). AreWithin ys (numbers_of_two m)) (both_led_within q (configuration s) l b.object b.name ys) c.step_two.result c.step_two.ensures.is
 
-pub returns-in_default-get-clause-is : goal.returns-in_default-get-clause-is
-returns-in_default-get-clause-is c = tt
+pub returns-clause-grows : goal.returns-clause-grows
+returns-clause-grows c = c.step_two.ensures.grows
 
-pub returns-in_default-get-clause-within : goal.returns-in_default-get-clause-within
-returns-in_default-get-clause-within c = tt
+pub returns-clause-program : goal.returns-clause-program
+returns-clause-program c = c.step_two.ensures.program
 
-pub returns-in_default-2-clause-is : goal.returns-in_default-2-clause-is
-returns-in_default-2-clause-is c = tt
+pub returns-in_err-add_copy-clause-grows : goal.returns-in_err-add_copy-clause-grows
+returns-in_err-add_copy-clause-grows c = all_of (states c.args.self.now.table)
 
-pub returns-in_default-2-clause-within : goal.returns-in_default-2-clause-within
-returns-in_default-2-clause-within c = tt
-
-pub returns-in_default-get-2-clause-is : goal.returns-in_default-get-2-clause-is
-returns-in_default-get-2-clause-is c = tt
-
-pub returns-in_default-get-2-clause-within : goal.returns-in_default-get-2-clause-within
-returns-in_default-get-2-clause-within c = tt
+pub returns-in_err-add_copy-clause-program : goal.returns-in_err-add_copy-clause-program
+returns-in_err-add_copy-clause-program c = refl

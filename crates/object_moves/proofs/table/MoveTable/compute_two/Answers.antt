@@ -1,153 +1,55 @@
-use Rattle.std.proofs.Common.{◌≡◌, ◌<◌, refl, sym, ap, ap₂, subst, ◌∙◌, length, slice_get, Some, arith}
-use Rattle.std.specs.Ordering.{nat_cmp}
-use Rattle.std.specs.Option.{IfSome, option_copied}
-use Rattle.std.specs.BTreeMap.{get}
-use Rattle.std.proofs.lemmas.Option.{slice_get_within}
+use Rattle.std.proofs.Common.{◌≡◌, refl, sym, ap, ap₂, ◌∙◌}
 use Rattle.pool_syntax.specs.TreeOf.{program_of}
+use Rattle.pool_relation.specs.Configuration.{Configuration, put_object}
+use Rattle.pool_semantics.specs.Plains.{configuration}
 use Rattle.search_states.specs.States.{states}
 use Rattle.stepper_objects.specs.ObjectStates.{thing_object}
 use Rattle.object_moves.specs.Effects.{effect_two, together}
-use Rattle.object_moves.specs.Known.{duo_label, state_at}
-use Rattle.object_moves.proofs.KnownFacts.{both_within, duo_failed, duo_made, failed_as, made_as, object_in, state_there}
-use Rattle.object_moves.proofs.StateGrowth.{all_of, front_of_front, no_shorter, state_still}
+use Rattle.object_moves.specs.Known.{duo_label, numbers_of_two, state_at, two_of}
+use Rattle.object_moves.specs.Led.{AreLed}
+use Rattle.object_moves.specs.Rows.{AreWithin}
+use Rattle.object_moves.specs.declared.known.Two.{Two}
+use Rattle.object_moves.proofs.KnownFacts.{state_there}
+use Rattle.object_moves.proofs.LedFacts.{both_led_as, both_led_within, duo_led, each_told}
+use Rattle.object_moves.proofs.StateGrowth.{all_of}
 use Rattle.object_moves.proofs.table.MoveTable.compute_two.Goals as goal
 
-pub returns-then-not-branch-clause-is : goal.returns-then-not-branch-clause-is
-returns-then-not-branch-clause-is c =
-    let p = program_of c.args.self.now.program.now in
-    let xs = states c.args.self.now.table in
-    let q = c.args.pair in
-    let a = c.args.act.now in
-    let y = thing_object c.in-Some.serving.now in
-    let x = thing_object c.in-Some-get.asking.now in
-    let none =
-    failed_as c.in_ok-small.small c.step.new.self c.duo_label.result (duo_label q.receiver q.caller a) p (together q.caller x q.receiver y) c.in_ok-small.ensures.program c.in_ok-small.ensures.objects
-    c.duo_label.ensures c.in_ok-step.field-0 c.in_ok-step.ensures.step c.if-not-branch.true
-    in
-    ap₂ (effect_two p (duo_label q.receiver q.caller a)) (state_there xs q.serving y (sym c.in-Some.ensures)) (state_there xs q.asking x (sym c.in-Some-get.ensures))
-    ∙ duo_failed p q.caller x q.receiver y a c.requires.apart none
-
-pub returns-in-Some-3-clause-is : goal.returns-in-Some-3-clause-is
-returns-in-Some-3-clause-is c =
-    let p = program_of c.args.self.now.program.now in
-    let xs = states c.args.self.now.table in
-    let ys = states c.number_of.new.self.table in
-    let zs = states c.number_of-2.new.self.table in
-    let q = c.args.pair in
-    let a = c.args.act.now in
-    let y = thing_object c.in-Some.serving.now in
-    let x = thing_object c.in-Some-get.asking.now in
-    let t = c.in-Some-get-2.served.now in
-    let u = c.in-Some-get-3.asked.now in
-    let n = c.in-Some-2.receiver in
-    let m = c.in-Some-3.caller in
-    let d = c.step.new.self in
-    let made =
-    made_as c.in_ok-small.small d c.duo_label.result (duo_label q.receiver q.caller a) p (together q.caller x q.receiver y) c.in_ok-small.ensures.program c.in_ok-small.ensures.objects c.duo_label.ensures
-    c.in_ok-step.field-0 c.in_ok-step.ensures.step c.if-not-branch.false
-    in
-    let served : get nat_cmp d.objects q.receiver ≡ Some t = sym c.get-3.ensures.value ∙ ap option_copied c.in-Some-get-2.is in
-    let asked : get nat_cmp d.objects q.caller ≡ Some u = sym c.get-4.ensures.value ∙ ap option_copied c.in-Some-get-3.is in
-    let at : slice_get ys n ≡ Some (thing_object t) = subst (λ r. IfSome r (λ n. slice_get ys n ≡ Some (thing_object t))) c.in-Some-2.is c.in_ok-receiver.ensures.found in
-    let of : slice_get zs m ≡ Some (thing_object u) = subst (λ r. IfSome r (λ n. slice_get zs n ≡ Some (thing_object u))) c.in-Some-3.is c.in_ok-caller.ensures.found in
-    ap₂ (effect_two p (duo_label q.receiver q.caller a)) (state_there xs q.serving y (sym c.in-Some.ensures)) (state_there xs q.asking x (sym c.in-Some-get.ensures))
-    ∙ duo_made p q.caller x q.receiver y a c.requires.apart _ (thing_object t) (thing_object u) ys zs n m made (object_in d q.receiver t served) (object_in d q.caller u asked) at of
-    ∙ ap (λ z. Some (z, state_at zs m)) (sym (state_still ys zs n c.number_of-2.ensures.grows (slice_get_within ys n (thing_object t) at)))
-
-pub returns-in-Some-3-clause-within : goal.returns-in-Some-3-clause-within
-returns-in-Some-3-clause-within c =
-    let ys = states c.number_of.new.self.table in
-    let zs = states c.number_of-2.new.self.table in
-    let n = c.in-Some-2.receiver in
-    let m = c.in-Some-3.caller in
-    let t = thing_object c.in-Some-get-2.served.now in
-    let u = thing_object c.in-Some-get-3.asked.now in
-    let at : slice_get ys n ≡ Some t = subst (λ r. IfSome r (λ n. slice_get ys n ≡ Some t)) c.in-Some-2.is c.in_ok-receiver.ensures.found in
-    let of : slice_get zs m ≡ Some u = subst (λ r. IfSome r (λ n. slice_get zs n ≡ Some u)) c.in-Some-3.is c.in_ok-caller.ensures.found in
-    let first : n < length ys = slice_get_within ys n t at in
-    let longer = no_shorter ys zs c.number_of-2.ensures.grows in
-    both_within zs n m (omega arith) (slice_get_within zs m u of)
-
-pub returns-in_err-small-clause-grows : goal.returns-in_err-small-clause-grows
-returns-in_err-small-clause-grows c = all_of (states c.args.self.now.table)
-
-pub returns-in_err-small-clause-program : goal.returns-in_err-small-clause-program
-returns-in_err-small-clause-program c = refl
-
-pub returns-in_err-step-clause-grows : goal.returns-in_err-step-clause-grows
-returns-in_err-step-clause-grows c = all_of (states c.args.self.now.table)
-
-pub returns-in_err-step-clause-program : goal.returns-in_err-step-clause-program
-returns-in_err-step-clause-program c = refl
-
-pub returns-then-not-branch-clause-grows : goal.returns-then-not-branch-clause-grows
-returns-then-not-branch-clause-grows c = all_of (states c.args.self.now.table)
-
-pub returns-then-not-branch-clause-program : goal.returns-then-not-branch-clause-program
-returns-then-not-branch-clause-program c = refl
-
-pub returns-in_default-get-2-clause-grows : goal.returns-in_default-get-2-clause-grows
-returns-in_default-get-2-clause-grows c = all_of (states c.args.self.now.table)
-
-pub returns-in_default-get-2-clause-program : goal.returns-in_default-get-2-clause-program
-returns-in_default-get-2-clause-program c = refl
-
-pub returns-in_default-2-clause-grows : goal.returns-in_default-2-clause-grows
-returns-in_default-2-clause-grows c = c.number_of.ensures.grows
-
-pub returns-in_default-2-clause-program : goal.returns-in_default-2-clause-program
-returns-in_default-2-clause-program c = c.number_of.ensures.program
-
-pub returns-in_err-receiver-clause-grows : goal.returns-in_err-receiver-clause-grows
-returns-in_err-receiver-clause-grows c = c.number_of.ensures.grows
-
-pub returns-in_err-receiver-clause-program : goal.returns-in_err-receiver-clause-program
-returns-in_err-receiver-clause-program c = c.number_of.ensures.program
-
-pub returns-in_default-get-3-clause-grows : goal.returns-in_default-get-3-clause-grows
-returns-in_default-get-3-clause-grows c = c.number_of.ensures.grows
-
-pub returns-in_default-get-3-clause-program : goal.returns-in_default-get-3-clause-program
-returns-in_default-get-3-clause-program c = c.number_of.ensures.program
-
-pub returns-clause-grows : goal.returns-clause-grows
-returns-clause-grows c = front_of_front (states c.args.self.now.table) (states c.number_of.new.self.table) (states c.number_of-2.new.self.table) c.number_of.ensures.grows c.number_of-2.ensures.grows
-
-pub returns-clause-program : goal.returns-clause-program
-returns-clause-program c = c.number_of-2.ensures.program ∙ c.number_of.ensures.program
-
-pub returns-in-Some-3-clause-grows : goal.returns-in-Some-3-clause-grows
-returns-in-Some-3-clause-grows c = front_of_front (states c.args.self.now.table) (states c.number_of.new.self.table) (states c.number_of-2.new.self.table) c.number_of.ensures.grows c.number_of-2.ensures.grows
-
-pub returns-in-Some-3-clause-program : goal.returns-in-Some-3-clause-program
-returns-in-Some-3-clause-program c = c.number_of-2.ensures.program ∙ c.number_of.ensures.program
-
-pub returns-in_err-caller-clause-grows : goal.returns-in_err-caller-clause-grows
-returns-in_err-caller-clause-grows c = front_of_front (states c.args.self.now.table) (states c.number_of.new.self.table) (states c.number_of-2.new.self.table) c.number_of.ensures.grows c.number_of-2.ensures.grows
-
-pub returns-in_err-caller-clause-program : goal.returns-in_err-caller-clause-program
-returns-in_err-caller-clause-program c = c.number_of-2.ensures.program ∙ c.number_of.ensures.program
-
 pub returns-clause-is : goal.returns-clause-is
-returns-clause-is c = tt
+returns-clause-is c =
+    let p = program_of c.args.self.now.program.now in
+    let s = c.add_both.new.small in
+    let q = program_of s.program.now in
+    let xs = states c.args.self.now.table in
+    let ys = states c.step_two.new.self.table in
+    let r = c.args.pair in
+    let a = c.args.act.now in
+    let y = thing_object c.in-Some.serving.now in
+    let x = thing_object c.in-Some-get.asking.now in
+    let l = c.duo_label-label.result in
+    let program : q ≡ p = ap (λ r. program_of r.now) c.add_both.ensures.program ∙ c.empty-small.ensures.program in
+    let start : configuration s ≡ together r.caller x r.receiver y = c.in_ok-add_both.ensures.objects ∙ ap (λ (d : Configuration). put_object (put_object d r.caller x) r.receiver y) c.empty-small.ensures.none in
+    each_told (AreLed q (configuration s) l r.receiver r.caller ys) (λ (m : Two). effect_two p (duo_label r.receiver r.caller a) (state_at xs r.serving) (state_at xs r.asking) ≡ two_of ys m)
+    (λ (m : Two) h. ap₂ (effect_two p (duo_label r.receiver r.caller a)) (state_there xs r.serving y (sym c.in-Some.ensures)) (state_there xs r.asking x (sym c.in-Some-get.ensures))
+    ∙ duo_led p r.caller x r.receiver y a ys m c.requires.apart (both_led_as q p (configuration s) (together r.caller x r.receiver y) l (duo_label r.receiver r.caller a) r.receiver r.caller ys m program start c.duo_label-label.ensures h))
+    c.step_two.result c.step_two.ensures.is
 
 pub returns-clause-within : goal.returns-clause-within
-returns-clause-within c = tt
+returns-clause-within c =
+    let s = c.add_both.new.small in
+    let q = program_of s.program.now in
+    let ys = states c.step_two.new.self.table in
+    let r = c.args.pair in
+    let l = c.duo_label-label.result in
+    each_told (AreLed q (configuration s) l r.receiver r.caller ys) (λ (m : Two). AreWithin ys (numbers_of_two m)) (both_led_within q (configuration s) l r.receiver r.caller ys) c.step_two.result c.step_two.ensures.is
 
-pub returns-in_default-get-2-clause-is : goal.returns-in_default-get-2-clause-is
-returns-in_default-get-2-clause-is c = tt
+pub returns-clause-grows : goal.returns-clause-grows
+returns-clause-grows c = c.step_two.ensures.grows
 
-pub returns-in_default-get-2-clause-within : goal.returns-in_default-get-2-clause-within
-returns-in_default-get-2-clause-within c = tt
+pub returns-clause-program : goal.returns-clause-program
+returns-clause-program c = c.step_two.ensures.program
 
-pub returns-in_default-2-clause-is : goal.returns-in_default-2-clause-is
-returns-in_default-2-clause-is c = tt
+pub returns-in_err-add_both-clause-grows : goal.returns-in_err-add_both-clause-grows
+returns-in_err-add_both-clause-grows c = all_of (states c.args.self.now.table)
 
-pub returns-in_default-2-clause-within : goal.returns-in_default-2-clause-within
-returns-in_default-2-clause-within c = tt
-
-pub returns-in_default-get-3-clause-is : goal.returns-in_default-get-3-clause-is
-returns-in_default-get-3-clause-is c = tt
-
-pub returns-in_default-get-3-clause-within : goal.returns-in_default-get-3-clause-within
-returns-in_default-get-3-clause-within c = tt
+pub returns-in_err-add_both-clause-program : goal.returns-in_err-add_both-clause-program
+returns-in_err-add_both-clause-program c = refl
