@@ -31,7 +31,7 @@ mod waiters;
 mod writings;
 
 pub use outcomes::{EndKind, Outcome, OutcomeRun, Outcomes, all_outcomes, outcome_run};
-pub use progress::{Progress, Silent};
+pub use progress::Progress;
 pub use queries::{Query, SearchResult, Target};
 pub use searching::search;
 pub use visited::{Entry, VisitedSet};

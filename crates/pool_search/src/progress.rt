@@ -6,11 +6,3 @@ pub trait Progress {
     /// has tried. The loop of a search calls this once for each entry that it visits, before it visits the entry.
     fn note(&mut self, kept: u32, tried: u32);
 }
-
-/// For callers that want to be told nothing.
-#[derive(Clone, Copy)]
-pub struct Silent;
-
-impl Progress for Silent {
-    fn note(&mut self, _kept: u32, _tried: u32) {}
-}

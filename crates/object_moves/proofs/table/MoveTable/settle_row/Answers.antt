@@ -40,3 +40,42 @@ loop-at-preserved c =
       within = told.within;
       follows = moves_both p k from mid to os qs rs l.invariant.follows more;
     }
+
+pub returns-in_default-clause-grows : goal.returns-in_default-clause-grows
+returns-in_default-clause-grows c = c.loop-at.invariant.grows
+
+pub returns-in_default-clause-program : goal.returns-in_default-clause-program
+returns-in_default-clause-program c = c.loop-at.invariant.program
+
+pub returns-in_default-clause-within : goal.returns-in_default-clause-within
+returns-in_default-clause-within c = c.loop-at.invariant.within
+
+pub returns-in_default-clause-follows : goal.returns-in_default-clause-follows
+returns-in_default-clause-follows c = λ _. c.loop-at.invariant.follows
+
+pub returns-in-Ok-false-clause-grows : goal.returns-in-Ok-false-clause-grows
+returns-in-Ok-false-clause-grows c = front_of_front (states c.args.self.now.table) (states c.loop-at.self.table) (states c.settle_object.new.self.table) c.loop-at.invariant.grows c.settle_object.ensures.grows
+
+pub returns-in-Ok-false-clause-program : goal.returns-in-Ok-false-clause-program
+returns-in-Ok-false-clause-program c = c.settle_object.ensures.program ∙ c.loop-at.invariant.program
+
+pub returns-in-Err-clause-grows : goal.returns-in-Err-clause-grows
+returns-in-Err-clause-grows c = front_of_front (states c.args.self.now.table) (states c.loop-at.self.table) (states c.settle_object.new.self.table) c.loop-at.invariant.grows c.settle_object.ensures.grows
+
+pub returns-in-Err-clause-program : goal.returns-in-Err-clause-program
+returns-in-Err-clause-program c = c.settle_object.ensures.program ∙ c.loop-at.invariant.program
+
+pub returns-in-Ok-false-clause-within : goal.returns-in-Ok-false-clause-within
+returns-in-Ok-false-clause-within c = c.in-Ok-false.ensures.within
+
+pub returns-in-Err-clause-within : goal.returns-in-Err-clause-within
+returns-in-Err-clause-within c = tt
+
+pub returns-clause-grows : goal.returns-clause-grows
+returns-clause-grows c = c.loop-at.invariant.grows
+
+pub returns-clause-program : goal.returns-clause-program
+returns-clause-program c = c.loop-at.invariant.program
+
+pub returns-clause-within : goal.returns-clause-within
+returns-clause-within c = c.loop-at.invariant.within
