@@ -3,6 +3,7 @@ pub mod FollowedRows
 pub mod KnownFacts
 pub mod KnownGrowth
 pub mod Laws
+pub mod LeadResults
 pub mod LedFacts
 pub mod MailEffect
 pub mod NewEffect

@@ -10,6 +10,7 @@ pub mod ListGrowth
 pub mod SearchComplete
 pub mod RunExtension
 pub mod EntryExpansion
+pub mod FailedResults
 pub mod FoundLists
 pub mod OutcomesComplete
 pub mod ConfigurationClass

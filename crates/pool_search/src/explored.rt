@@ -1,5 +1,6 @@
 //! The visited set of a search, and the expansion of its entries.
 ghost use Rattle.std.specs.Prelude.{◌≡◌, ◌⊎◌, ◌+◌, ◌++◌, ◌∷◌, ◌<◌, ◌≤◌, ℕ, Ok, Some, None, IfOk, IfSome, get_or, length, slice_get, min, [], true, false};
+ghost use Rattle.pool_syntax.specs.TreeOf.{program_of};
 ghost use Rattle.pool_relation.specs.Transition.{transition};
 ghost use Rattle.pool_semantics.specs.PlainOf.{configuration_of, program_tree, is_spent};
 ghost use Rattle.std.specs.List.{filter};
@@ -23,6 +24,7 @@ use crate::settling::settle;
 use crate::visited::{Entry, Found, VisitedSet};
 use crate::writings::item_of;
 use pool_semantics::{Plain, Refuse};
+use pool_syntax::Program;
 use run_types::Label;
 use std::alloc::{AllocError, Global};
 
@@ -79,17 +81,16 @@ fn number(place: usize) -> u32 {
 }
 
 impl<'a> Explored<'a> {
-    /// An empty visited set for the program of `plain`. An error means out of memory.
-    pub fn make(alloc: Global, plain: &Plain<'a>) -> Result<Explored<'a>, AllocError>
-        ensures program { IfOk result (λ e. searched e ≡ program_tree plain.now) }
-        ensures none { IfOk result (λ e. entries e ≡ []) }
-        ensures lists { IfOk result (λ e. lists e ≡ [] ∷ []) }
+    /// An empty visited set for this program.
+    pub fn make(alloc: Global, program: &'a Program) -> Explored<'a>
+        ensures program { searched result ≡ program_of program.now }
+        ensures none { entries result ≡ [] }
+        ensures lists { lists result ≡ [] ∷ [] }
     {
-        let kept = VisitedSet::make(alloc, plain)?;
-        Ok(Explored {
-            kept,
+        Explored {
+            kept: VisitedSet::empty(alloc, program),
             origins: Vec::new(alloc),
-        })
+        }
     }
 
     /// The number of entries, but at most `most`.
@@ -221,6 +222,47 @@ impl<'a> Explored<'a> {
         }
     }
 
+    /// Tries a label of the entry `origin.from`, where the stepper is. An error means out of memory.
+    fn follow_from(
+        &mut self,
+        plain: &mut Plain<'a>,
+        label: &Label,
+        origin: Origin,
+        scope: Scope,
+    ) -> Result<Trial, AllocError>
+        requires fresh { is_spent plain.old ≡ false }
+        requires same { program_tree plain.old ≡ searched self.old }
+        requires at { IfSome (slice_get (entries self.old) origin.from) (λ e. configuration_of plain.old ≡ e.configuration) }
+        requires exists { origin.from < length (entries self.old) }
+        requires reached { AllReached (searched self.old) (course_of scope.keeps) (entries self.old) }
+        ensures program { searched self.new ≡ searched self.old }
+        ensures grows { IfOk result (λ t. is_tried t ≡ true → Grows (searched self.old) (course_of scope.keeps) scope.most (entries self.old) (entries self.new)) }
+        ensures impossible { result ≡ Ok Trial.Tried → (e : Passed) → slice_get (entries self.old) origin.from ≡ Some e → transition (searched self.old) e.configuration label.now ≡ None }
+        ensures led { (i : ℕ) → result ≡ Ok (Trial.Led i) → (e : Passed) → slice_get (entries self.old) origin.from ≡ Some e
+            → LeadsAt (searched self.old) (course_of scope.keeps) (entries self.new) e.next e.items e.configuration label.now i }
+    {
+        let from = origin.from as usize;
+        match plain.apply(label) {
+            Ok(()) => {}
+            Err(Refuse::NotPossible { .. }) => return Ok(Trial::Tried),
+            Err(Refuse::Memory) => return Err(AllocError),
+        }
+        let Some(after) = name_after(self.kept.next_name(from), label) else {
+            return Ok(Trial::Over);
+        };
+        let before = self.kept.written(from);
+        let written = match self.written_after(scope.keeps, before, label) {
+            Ok(Some(written)) => written,
+            Ok(None) => return Ok(Trial::Over),
+            Err(_) => return Err(AllocError),
+        };
+        match self.settle_and_keep(plain, after, written, origin, scope) {
+            Ok(Some(place)) => Ok(Trial::Led(place)),
+            Ok(None) => Ok(Trial::Over),
+            Err(_) => Err(AllocError),
+        }
+    }
+
     /// Tries a label of the entry `origin.from` by the stepper. An error means out of memory.
     fn follow_whole(
         &mut self,
@@ -236,24 +278,8 @@ impl<'a> Explored<'a> {
         ensures led { (i : ℕ) → result ≡ Ok (Trial.Led i) → (e : Passed) → slice_get (entries self.old) origin.from ≡ Some e
             → LeadsAt (searched self.old) (course_of scope.keeps) (entries self.new) e.next e.items e.configuration label.now i }
     {
-        let from = origin.from as usize;
-        let mut plain = self.kept.configuration(from)?;
-        match plain.apply(label) {
-            Ok(()) => {}
-            Err(Refuse::NotPossible { .. }) => return Ok(Trial::Tried),
-            Err(Refuse::Memory) => return Err(AllocError),
-        }
-        let Some(after) = name_after(self.kept.next_name(from), label) else {
-            return Ok(Trial::Over);
-        };
-        let before = self.kept.written(from);
-        let Some(written) = self.written_after(scope.keeps, before, label)? else {
-            return Ok(Trial::Over);
-        };
-        match self.settle_and_keep(&mut plain, after, written, origin, scope)? {
-            Some(place) => Ok(Trial::Led(place)),
-            None => Ok(Trial::Over),
-        }
+        let mut plain = self.kept.configuration(origin.from as usize)?;
+        self.follow_from(&mut plain, label, origin, scope)
     }
 
     /// Tries a label of the entry `origin.from`. An error means out of memory.

@@ -1,5 +1,5 @@
 //! All outcomes of a program: what its runs write until they end, and how they end.
-ghost use Rattle.std.specs.Prelude.{◌≡◌, ◌<◌, ◌≤◌, ◌+◌, ◌⊎◌, ◌++◌, ℕ, List, [], Ok, length, slice_get, IfOk, IfSome, OnOk, true, false};
+ghost use Rattle.std.specs.Prelude.{◌≡◌, ◌<◌, ◌≤◌, ◌+◌, ◌⊎◌, ◌++◌, ◌∷◌, ℕ, List, [], Ok, length, slice_get, IfOk, IfSome, OnOk, true, false};
 ghost use Rattle.std.specs.Global.{Global};
 ghost use Rattle.std.specs.declared.vec.Vec.{Vec};
 ghost use Rattle.run_types.specs.Tables.{Each};
@@ -7,7 +7,7 @@ ghost use Rattle.run_types.specs.declared.types.Label.{Label};
 ghost use Rattle.pool_syntax.specs.TreeOf.{program_of};
 ghost use Rattle.search_laws.specs.Tried.{with_writes};
 ghost use Rattle.pool_search.specs.Courses.{course_of};
-ghost use Rattle.pool_search.specs.Entries.{entries, searched};
+ghost use Rattle.pool_search.specs.Entries.{entries, lists, searched};
 ghost use Rattle.pool_search.specs.FoundOutcomes.{IsNoted, IsShownRun};
 ghost use Rattle.pool_search.specs.OutcomeTargets.{IsShown, IsRunOf, HasAllOutcomes};
 ghost use Rattle.pool_search.specs.Progress.{AllInOrder, AllReached, HasSearched, IsSearchedTo};
@@ -157,6 +157,30 @@ fn visit_all<P: Progress>(
     Ok(true)
 }
 
+/// Searches all runs of a program for their outcomes, from an empty set. Whether all were found: `false` if a bound is met.
+/// An error means out of memory.
+fn find_all<'a, P: Progress>(
+    alloc: Global,
+    program: &Checked<'a>,
+    explored: &mut Explored<'a>,
+    most: u32,
+    ends: &mut Ends,
+    progress: &mut P,
+) -> Result<bool, AllocError>
+    requires program { searched explored.old ≡ program_of program.now.program.now }
+    requires none { entries explored.old ≡ [] }
+    requires lists { lists explored.old ≡ [] ∷ [] }
+    requires none_found { ends.old.list.items ≡ [] }
+    ensures shown { IfOk result (λ _. Each (IsShown (program_of program.now.program.now)) ends.new.list.items) }
+    ensures whole { result ≡ Ok true → HasAllOutcomes (program_of program.now.program.now) ends.new.list.items }
+{
+    match begin(alloc, program, explored, scope_of(most)) {
+        Ok(true) => visit_all(alloc, explored, most, ends, progress),
+        Ok(false) => Ok(false),
+        Err(_) => Err(AllocError),
+    }
+}
+
 /// Searches all runs of a program for their outcomes. An error means out of memory.
 /// The search is breadth-first, so the outcomes come in the order of the fewest kept configurations.
 /// The list is not complete if more than `most` configurations would be kept,
@@ -172,14 +196,8 @@ pub fn all_outcomes<P: Progress>(
     ensures within { IfOk result (λ r. r.kept ≤ most) }
 {
     let mut ends = Ends::make(alloc);
-    let Some(mut explored) = begin(alloc, program, scope_of(most))? else {
-        return Ok(Outcomes {
-            list: ends.list,
-            whole: false,
-            kept: 0,
-        });
-    };
-    let whole = visit_all(alloc, &mut explored, most, &mut ends, progress)?;
+    let mut explored = Explored::make(alloc, program.program);
+    let whole = find_all(alloc, program, &mut explored, most, &mut ends, progress)?;
     Ok(Outcomes {
         list: ends.list,
         whole,
@@ -214,6 +232,40 @@ fn show_run(
     }))
 }
 
+/// A run with the outcome at this place in the list that a search found. `whole` says whether the list is complete. An
+/// error means out of memory.
+fn run_at(
+    alloc: Global,
+    program: &Checked<'_>,
+    explored: &Explored<'_>,
+    ends: &Ends,
+    whole: bool,
+    most: u32,
+    place: u32,
+) -> Result<OutcomeRun, AllocError>
+    requires { whole ≡ true → HasAllOutcomes (program_of program.now.program.now) ends.now.list.items }
+    ensures shown { IfOk result (λ r. (o : OneOutcome) (ls : Vec Label Global) → r ≡ OutcomeRun.Shown o ls → IsRunOf (program_of program.now.program.now) o ls.items) }
+    ensures finite { IfOk result (λ r. (k : ℕ) → r ≡ OutcomeRun.Finite k → (os : List OneOutcome) × HasAllOutcomes (program_of program.now.program.now) os × (length os ≤ place)) }
+    ensures within { IfOk result (λ r. (k : ℕ) → (r ≡ OutcomeRun.Finite k) ⊎ (r ≡ OutcomeRun.Over k) → k ≤ most) }
+{
+    let kept = explored.count(most);
+    if ends.list.len() <= place as usize {
+        if whole {
+            return Ok(OutcomeRun::Finite(kept));
+        }
+        return Ok(OutcomeRun::Over(kept));
+    }
+    let Some(at) = ends.places.as_slice().get(place as usize) else {
+        return Ok(OutcomeRun::Over(kept));
+    };
+    let way = way_to(alloc, &explored.origins, *at)?;
+    match show_run(alloc, program, &way) {
+        Ok(Some(run)) => Ok(run),
+        Ok(None) => Ok(OutcomeRun::Over(kept)),
+        Err(_) => Err(AllocError),
+    }
+}
+
 /// A run with the outcome at this place in the list that `all_outcomes` gives, counted from 0. An error means out of
 /// memory.
 pub fn outcome_run<P: Progress>(
@@ -228,24 +280,7 @@ pub fn outcome_run<P: Progress>(
     ensures within { IfOk result (λ r. (k : ℕ) → (r ≡ OutcomeRun.Finite k) ⊎ (r ≡ OutcomeRun.Over k) → k ≤ most) }
 {
     let mut ends = Ends::make(alloc);
-    let Some(mut explored) = begin(alloc, program, scope_of(most))? else {
-        return Ok(OutcomeRun::Over(0));
-    };
-    let whole = visit_all(alloc, &mut explored, most, &mut ends, progress)?;
-    let kept = explored.count(most);
-    if ends.list.len() <= place as usize {
-        return Ok(if whole {
-            OutcomeRun::Finite(kept)
-        } else {
-            OutcomeRun::Over(kept)
-        });
-    }
-    let Some(at) = ends.places.as_slice().get(place as usize) else {
-        return Ok(OutcomeRun::Over(kept));
-    };
-    let way = way_to(alloc, &explored.origins, *at)?;
-    match show_run(alloc, program, &way)? {
-        Some(run) => Ok(run),
-        None => Ok(OutcomeRun::Over(kept)),
-    }
+    let mut explored = Explored::make(alloc, program.program);
+    let whole = find_all(alloc, program, &mut explored, most, &mut ends, progress)?;
+    run_at(alloc, program, &explored, &ends, whole, most, place)
 }

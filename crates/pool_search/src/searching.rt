@@ -1,12 +1,12 @@
 //! The breadth-first search.
-ghost use Rattle.std.specs.Prelude.{◌≡◌, ◌≤◌, ℕ, Ok, Some, IfOk, IfSome, length, true};
+ghost use Rattle.std.specs.Prelude.{◌≡◌, ◌≤◌, ◌∷◌, ℕ, [], Ok, Some, IfOk, IfSome, length, true};
 ghost use Rattle.std.specs.Global.{Global};
 ghost use Rattle.std.specs.declared.vec.Vec.{Vec};
 ghost use Rattle.pool_syntax.specs.TreeOf.{program_of};
 ghost use Rattle.run_types.specs.declared.types.Label.{Label};
 ghost use Rattle.search_laws.specs.Tried.{states_only};
 ghost use Rattle.pool_search.specs.Courses.{course_of};
-ghost use Rattle.pool_search.specs.Entries.{IsPassedOver, entries, searched};
+ghost use Rattle.pool_search.specs.Entries.{IsPassedOver, entries, lists, searched};
 ghost use Rattle.pool_search.specs.Progress.{AllInOrder, IsSearchedTo};
 ghost use Rattle.pool_search.specs.SearchTargets.{IsFinite, IsShownFault, IsWantedDead, IsWantedEnd, LeadsInOrder, wants_stuck};
 ghost use Rattle.pool_search.specs.SearchAnswers.{IsAnswer};
@@ -23,22 +23,26 @@ use class_check::Checked;
 use pool_semantics::Plain;
 use std::alloc::{AllocError, Global};
 
-/// Settles the start and keeps it. None if a bound is met. An error means out of memory.
+/// Settles the start and keeps it in this empty set. `false` if a bound is met. An error means out of memory.
 pub fn begin<'a>(
     alloc: Global,
     program: &Checked<'a>,
+    explored: &mut Explored<'a>,
     scope: Scope,
-) -> Result<Option<Explored<'a>>, AllocError>
-    ensures program { IfOk result (λ r. IfSome r (λ e. searched e ≡ program_of program.now.program.now)) }
-    ensures begun { IfOk result (λ r. IfSome r (λ e. IsSearchedTo (searched e) (course_of scope.keeps) (λ _. Unit {0}) (entries e) 0)) }
-    ensures within { IfOk result (λ r. IfSome r (λ e. length (entries e) ≤ scope.most)) }
+) -> Result<bool, AllocError>
+    requires program { searched explored.old ≡ program_of program.now.program.now }
+    requires none { entries explored.old ≡ [] }
+    requires lists { lists explored.old ≡ [] ∷ [] }
+    ensures program { searched explored.new ≡ searched explored.old }
+    ensures begun { result ≡ Ok true → IsSearchedTo (searched explored.new) (course_of scope.keeps) (λ _. Unit {0}) (entries explored.new) 0 }
+    ensures within { result ≡ Ok true → length (entries explored.new) ≤ scope.most }
 {
     let mut plain = Plain::make(alloc, program, 0)?;
-    let mut explored = Explored::make(alloc, &plain)?;
     let origin = Origin { from: 0, label: 0 };
-    match explored.settle_and_keep(&mut plain, 1, 0, origin, scope)? {
-        Some(_) => Ok(Some(explored)),
-        None => Ok(None),
+    match explored.settle_and_keep(&mut plain, 1, 0, origin, scope) {
+        Ok(Some(_)) => Ok(true),
+        Ok(None) => Ok(false),
+        Err(_) => Err(AllocError),
     }
 }
 
@@ -170,8 +174,11 @@ pub fn search<P: Progress>(
         keeps: Keeps::States,
         most: question.most,
     };
-    let Some(mut explored) = begin(alloc, program, scope)? else {
-        return Ok(SearchResult::Over(0));
-    };
+    let mut explored = Explored::make(alloc, program.program);
+    match begin(alloc, program, &mut explored, scope) {
+        Ok(true) => {}
+        Ok(false) => return Ok(SearchResult::Over(0)),
+        Err(_) => return Err(AllocError),
+    }
     answer(alloc, program, &mut explored, question, progress)
 }

@@ -17,6 +17,7 @@ use crate::waiters::Waiters;
 use crate::writings::Writings;
 use object_moves::{Lead, MoveTable};
 use pool_semantics::{Plain, State};
+use pool_syntax::Program;
 use run_types::{Item, Label};
 use std::alloc::{AllocError, Global};
 use std::collections::{BTreeMap, HashMap};
@@ -62,6 +63,7 @@ impl<'a> VisitedSet<'a> {
     ghost use Rattle.std.specs.Ordering.{nat_cmp};
     ghost use Rattle.std.specs.FinMap.Entries.{is_sorted};
     ghost use Rattle.stepper_objects.specs.ObjectStates.{things};
+    ghost use Rattle.pool_syntax.specs.TreeOf.{program_of};
     ghost use Rattle.pool_semantics.specs.PlainOf.{configuration_of, program_tree, is_spent};
     ghost use Rattle.reachability.specs.Search.{IsFaulty, IsInOrder};
     ghost use Rattle.reachability.specs.Labels.{labels_to_try};
@@ -85,13 +87,22 @@ impl<'a> VisitedSet<'a> {
         ensures lists { IfOk result (λ k. kept_lists k ≡ [] ∷ []) }
         ensures program { IfOk result (λ k. kept_program k ≡ program_tree plain.now) }
     {
-        Ok(VisitedSet {
+        Ok(VisitedSet::empty(alloc, plain.state().program))
+    }
+
+    /// An empty set for this program.
+    pub(crate) fn empty(alloc: Global, program: &'a Program) -> VisitedSet<'a>
+        ensures list { kept_list result ≡ [] }
+        ensures lists { kept_lists result ≡ [] ∷ [] }
+        ensures program { kept_program result ≡ program_of program.now }
+    {
+        VisitedSet {
             alloc,
-            moves: MoveTable::make(alloc, plain.state().program),
+            moves: MoveTable::make(alloc, program),
             writings: Writings::make(alloc),
             entries: Vec::new(alloc),
             latest: HashMap::new(alloc),
-        })
+        }
     }
 
     /// The allocator of its memory.

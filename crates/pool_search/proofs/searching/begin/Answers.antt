@@ -12,30 +12,31 @@ use Rattle.pool_search.proofs.EntryExpansion.{begun_at}
 use Rattle.pool_search.proofs.RunExtension.{reached_start}
 use Rattle.pool_search.proofs.searching.begin.Goals as goal
 
+pub settle_and_keep-requires-clause-program : goal.settle_and_keep-requires-clause-program
+settle_and_keep-requires-clause-program c = c.in_ok-plain.ensures.program ∙ sym c.requires.program
+
 pub settle_and_keep-requires-clause-reached : goal.settle_and_keep-requires-clause-reached
 settle_and_keep-requires-clause-reached c =
-    let e = c.in_ok-explored.explored in
+    let e = c.args.explored.now in
     let k = course_of c.args.scope.keeps in
     let first = configuration_of c.in_ok-plain.plain in
-    let same = c.in_ok-explored.ensures.program ∙ c.in_ok-plain.ensures.program in
-    let nothing : get_or (lists e) 0 [] ≡ [] = ap (λ (ws : List (List Item)). get_or ws 0 []) c.in_ok-explored.ensures.lists in
+    let nothing : get_or (lists e) 0 [] ≡ [] = ap (λ (ws : List (List Item)). get_or ws 0 []) c.requires.lists in
     subst (λ (w : List Item). IsReachedWith (searched e) k w first) (sym nothing)
-    (reached_start (searched e) k first (subst (λ (q : ProgramTree). start q 0 ≡ Some first) (sym same) c.in_ok-plain.ensures.start))
+    (reached_start (searched e) k first (subst (λ (q : ProgramTree). start q 0 ≡ Some first) (sym c.requires.program) c.in_ok-plain.ensures.start))
 
-pub returns-in-Some-clause-begun : goal.returns-in-Some-clause-begun
-returns-in-Some-clause-begun c =
-    let e = c.in_ok-explored.explored in
+pub returns-in-Ok-Some-clause-begun : goal.returns-in-Ok-Some-clause-begun
+returns-in-Ok-Some-clause-begun c = λ _.
+    let e = c.args.explored.now in
     let p = searched e in
     let k = course_of c.args.scope.keeps in
     let most = c.args.scope.most in
     let first = configuration_of c.in_ok-plain.plain in
     let es = entries c.settle_and_keep.new.self in
-    let place = c.in-Some.field-0 in
-    let same = c.in_ok-explored.ensures.program ∙ c.in_ok-plain.ensures.program in
-    let starts : start p 0 ≡ Some first = subst (λ (q : ProgramTree). start q 0 ≡ Some first) (sym same) c.in_ok-plain.ensures.start in
-    let nothing : get_or (lists e) 0 [] ≡ [] = ap (λ (ws : List (List Item)). get_or ws 0 []) c.in_ok-explored.ensures.lists in
-    let leads : SettlesAt p k es 1 (get_or (lists e) 0 []) first place = subst (λ o. IfSome o (λ i. SettlesAt p k es 1 (get_or (lists e) 0 []) first i)) c.in-Some.is c.in_ok-settle_and_keep.ensures.leads in
-    let grows : Grows p k most (entries e) es = subst (λ o. IfSome o (λ _. Grows p k most (entries e) es)) c.in-Some.is c.in_ok-settle_and_keep.ensures.grows in
+    let place = c.in-Ok-Some.field-0-0 in
+    let starts : start p 0 ≡ Some first = subst (λ (q : ProgramTree). start q 0 ≡ Some first) (sym c.requires.program) c.in_ok-plain.ensures.start in
+    let nothing : get_or (lists e) 0 [] ≡ [] = ap (λ (ws : List (List Item)). get_or ws 0 []) c.requires.lists in
+    let leads : SettlesAt p k es 1 (get_or (lists e) 0 []) first place = subst (λ o. IfSome o (λ i. SettlesAt p k es 1 (get_or (lists e) 0 []) first i)) c.in-Ok-Some.field-0-is c.in-Ok-Some.ensures.leads in
+    let grows : Grows p k most (entries e) es = subst (λ o. IfSome o (λ _. Grows p k most (entries e) es)) c.in-Ok-Some.field-0-is c.in-Ok-Some.ensures.grows in
     subst (λ (q : ProgramTree). IsSearchedTo q k (λ _. Unit {0}) es 0) (sym c.settle_and_keep.ensures.program)
     (begun_at p k most es first place starts (subst (λ (w : List Item). SettlesAt p k es 1 w first place) nothing leads)
-    (subst (λ (xs : Entries). Grows p k most xs es) c.in_ok-explored.ensures.none grows))
+    (subst (λ (xs : Entries). Grows p k most xs es) c.requires.none grows))

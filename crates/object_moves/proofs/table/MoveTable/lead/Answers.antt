@@ -1,10 +1,11 @@
-use Rattle.std.proofs.Common.{ap, subst, ◌∙◌, [], ◌∷◌, Ok}
+use Rattle.std.proofs.Common.{ap, subst, ◌∙◌, [], ◌∷◌, Ok, refl}
 use Rattle.pool_semantics.specs.Mails.{posts}
 use Rattle.pool_syntax.specs.Terms.{ProgramTree}
 use Rattle.pool_syntax.specs.TreeOf.{program_of}
 use Rattle.search_states.specs.States.{states}
 use Rattle.object_moves.specs.Followed.{HasMoved, course, passes}
 use Rattle.object_moves.specs.Rows.{row}
+use Rattle.object_moves.proofs.LeadResults.{failed_not, impossible_made, made_impossible, unknown_impossible, unknown_made}
 use Rattle.object_moves.proofs.FollowedMoves.{Moves, moved_both, moved_from_none, moves_both}
 use Rattle.object_moves.proofs.StateGrowth.{front_of_front}
 use Rattle.object_moves.proofs.table.MoveTable.lead.Goals as goal
@@ -102,3 +103,54 @@ returns-in-Ok-true-settle_row-clause-within c = c.in-Ok-true-settle_row.ensures.
 
 pub returns-in-Ok-Impossible-clause-impossible : goal.returns-in-Ok-Impossible-clause-impossible
 returns-in-Ok-Impossible-clause-impossible c = λ _. c.in-Ok-Impossible.ensures.impossible (ap Ok c.in-Ok-Impossible.field-0-is)
+
+pub returns-in-Ok-Unknown-clause-impossible : goal.returns-in-Ok-Unknown-clause-impossible
+returns-in-Ok-Unknown-clause-impossible c = λ told. absurd (unknown_impossible _ refl told)
+
+pub returns-in-Ok-Unknown-clause-made : goal.returns-in-Ok-Unknown-clause-made
+returns-in-Ok-Unknown-clause-made c = λ told. absurd (unknown_made _ refl told)
+
+pub returns-in-Ok-false-clause-impossible : goal.returns-in-Ok-false-clause-impossible
+returns-in-Ok-false-clause-impossible c = λ told. absurd (unknown_impossible _ refl told)
+
+pub returns-in-Ok-false-clause-made : goal.returns-in-Ok-false-clause-made
+returns-in-Ok-false-clause-made c = λ told. absurd (unknown_made _ refl told)
+
+pub returns-in-Ok-false-settle_row-clause-impossible : goal.returns-in-Ok-false-settle_row-clause-impossible
+returns-in-Ok-false-settle_row-clause-impossible c = λ told. absurd (unknown_impossible _ refl told)
+
+pub returns-in-Ok-false-settle_row-clause-made : goal.returns-in-Ok-false-settle_row-clause-made
+returns-in-Ok-false-settle_row-clause-made c = λ told. absurd (unknown_made _ refl told)
+
+pub returns-in-Ok-Impossible-clause-made : goal.returns-in-Ok-Impossible-clause-made
+returns-in-Ok-Impossible-clause-made c = λ told. absurd (impossible_made _ refl told)
+
+pub returns-in-Ok-true-settle_row-clause-impossible : goal.returns-in-Ok-true-settle_row-clause-impossible
+returns-in-Ok-true-settle_row-clause-impossible c = λ told. absurd (made_impossible _ refl told)
+
+pub returns-in-Err-clause-impossible : goal.returns-in-Err-clause-impossible
+returns-in-Err-clause-impossible c = λ told. absurd (failed_not _ refl told)
+
+pub returns-in-Err-clause-made : goal.returns-in-Err-clause-made
+returns-in-Err-clause-made c = λ told. absurd (failed_not _ refl told)
+
+pub returns-in-Err-clause-within : goal.returns-in-Err-clause-within
+returns-in-Err-clause-within c = tt
+
+pub returns-in-Err-settle_new-clause-impossible : goal.returns-in-Err-settle_new-clause-impossible
+returns-in-Err-settle_new-clause-impossible c = λ told. absurd (failed_not _ refl told)
+
+pub returns-in-Err-settle_new-clause-made : goal.returns-in-Err-settle_new-clause-made
+returns-in-Err-settle_new-clause-made c = λ told. absurd (failed_not _ refl told)
+
+pub returns-in-Err-settle_new-clause-within : goal.returns-in-Err-settle_new-clause-within
+returns-in-Err-settle_new-clause-within c = tt
+
+pub returns-in-Err-settle_row-clause-impossible : goal.returns-in-Err-settle_row-clause-impossible
+returns-in-Err-settle_row-clause-impossible c = λ told. absurd (failed_not _ refl told)
+
+pub returns-in-Err-settle_row-clause-made : goal.returns-in-Err-settle_row-clause-made
+returns-in-Err-settle_row-clause-made c = λ told. absurd (failed_not _ refl told)
+
+pub returns-in-Err-settle_row-clause-within : goal.returns-in-Err-settle_row-clause-within
+returns-in-Err-settle_row-clause-within c = tt

@@ -10,6 +10,7 @@ use Rattle.object_moves.specs.Known.{numbers_of_one, one_of, parcel_label, state
 use Rattle.object_moves.specs.Rows.{AreWithin}
 use Rattle.object_moves.specs.Waiting.{IsMoved}
 use Rattle.object_moves.specs.declared.known.One.TheVariants as O
+use Rattle.object_moves.proofs.LeadResults.{failed_not, impossible_made, made_impossible, unknown_impossible, unknown_made}
 use Rattle.object_moves.proofs.KnownFacts.{read_at}
 use Rattle.object_moves.proofs.RowMail.{mail_gone, mail_impossible, mail_leads}
 use Rattle.object_moves.proofs.RowMoves.{set_within}
@@ -136,3 +137,48 @@ returns-in-Ok-Impossible-clause-within c = within_still (states c.args.self.now.
 
 pub returns-in-Ok-Unknown-clause-within : goal.returns-in-Ok-Unknown-clause-within
 returns-in-Ok-Unknown-clause-within c = within_still (states c.args.self.now.table) (states c.mail.new.self.table) c.args.numbers.now.items c.mail.ensures.grows c.requires.within
+
+pub returns-in_default-clause-impossible : goal.returns-in_default-clause-impossible
+returns-in_default-clause-impossible c = λ told. absurd (unknown_impossible _ refl told)
+
+pub returns-in_default-clause-made : goal.returns-in_default-clause-made
+returns-in_default-clause-made c = λ told. absurd (unknown_made _ refl told)
+
+pub returns-in-Ok-None-clause-impossible : goal.returns-in-Ok-None-clause-impossible
+returns-in-Ok-None-clause-impossible c = λ told. absurd (unknown_impossible _ refl told)
+
+pub returns-in-Ok-None-clause-made : goal.returns-in-Ok-None-clause-made
+returns-in-Ok-None-clause-made c = λ told. absurd (unknown_made _ refl told)
+
+pub returns-in-Ok-Unknown-clause-impossible : goal.returns-in-Ok-Unknown-clause-impossible
+returns-in-Ok-Unknown-clause-impossible c = λ told. absurd (unknown_impossible _ refl told)
+
+pub returns-in-Ok-Unknown-clause-made : goal.returns-in-Ok-Unknown-clause-made
+returns-in-Ok-Unknown-clause-made c = λ told. absurd (unknown_made _ refl told)
+
+pub returns-in-Ok-Some-Impossible-clause-made : goal.returns-in-Ok-Some-Impossible-clause-made
+returns-in-Ok-Some-Impossible-clause-made c = λ told. absurd (impossible_made _ refl told)
+
+pub returns-in-Ok-Impossible-clause-made : goal.returns-in-Ok-Impossible-clause-made
+returns-in-Ok-Impossible-clause-made c = λ told. absurd (impossible_made _ refl told)
+
+pub returns-in-Ok-Made-clause-impossible : goal.returns-in-Ok-Made-clause-impossible
+returns-in-Ok-Made-clause-impossible c = λ told. absurd (made_impossible _ refl told)
+
+pub returns-in-Err-clause-impossible : goal.returns-in-Err-clause-impossible
+returns-in-Err-clause-impossible c = λ told. absurd (failed_not _ refl told)
+
+pub returns-in-Err-clause-made : goal.returns-in-Err-clause-made
+returns-in-Err-clause-made c = λ told. absurd (failed_not _ refl told)
+
+pub returns-in-Err-clause-within : goal.returns-in-Err-clause-within
+returns-in-Err-clause-within c = tt
+
+pub returns-in-Err-change_messages-clause-impossible : goal.returns-in-Err-change_messages-clause-impossible
+returns-in-Err-change_messages-clause-impossible c = λ told. absurd (failed_not _ refl told)
+
+pub returns-in-Err-change_messages-clause-made : goal.returns-in-Err-change_messages-clause-made
+returns-in-Err-change_messages-clause-made c = λ told. absurd (failed_not _ refl told)
+
+pub returns-in-Err-change_messages-clause-within : goal.returns-in-Err-change_messages-clause-within
+returns-in-Err-change_messages-clause-within c = tt

@@ -9,6 +9,7 @@ use Rattle.object_moves.specs.Effects.{effect_new}
 use Rattle.object_moves.specs.Known.{numbers_of_two, state_at, two_of}
 use Rattle.object_moves.specs.Rows.{AreWithin, row}
 use Rattle.object_moves.specs.declared.known.Two.TheVariants as W
+use Rattle.object_moves.proofs.LeadResults.{failed_not, impossible_made, made_impossible, unknown_impossible, unknown_made}
 use Rattle.object_moves.proofs.KnownFacts.{read_at}
 use Rattle.object_moves.proofs.RowNew.{more_within, new_impossible, new_leads}
 use Rattle.object_moves.proofs.StateGrowth.{all_of, within_still}
@@ -118,3 +119,36 @@ returns-in-Ok-None-clause-within c = within_still (states c.args.self.now.table)
 
 pub returns-in-Ok-Some-Impossible-clause-within : goal.returns-in-Ok-Some-Impossible-clause-within
 returns-in-Ok-Some-Impossible-clause-within c = within_still (states c.args.self.now.table) (states c.new.new.self.table) c.args.numbers.now.items c.new.ensures.grows c.requires.within
+
+pub returns-then-name-len-clause-impossible : goal.returns-then-name-len-clause-impossible
+returns-then-name-len-clause-impossible c = λ _ told. absurd (unknown_impossible _ refl told)
+
+pub returns-then-name-len-clause-made : goal.returns-then-name-len-clause-made
+returns-then-name-len-clause-made c = λ _ told. absurd (unknown_made _ refl told)
+
+pub returns-in_default-clause-impossible : goal.returns-in_default-clause-impossible
+returns-in_default-clause-impossible c = λ _ told. absurd (unknown_impossible _ refl told)
+
+pub returns-in_default-clause-made : goal.returns-in_default-clause-made
+returns-in_default-clause-made c = λ _ told. absurd (unknown_made _ refl told)
+
+pub returns-in-Ok-None-clause-impossible : goal.returns-in-Ok-None-clause-impossible
+returns-in-Ok-None-clause-impossible c = λ _ told. absurd (unknown_impossible _ refl told)
+
+pub returns-in-Ok-None-clause-made : goal.returns-in-Ok-None-clause-made
+returns-in-Ok-None-clause-made c = λ _ told. absurd (unknown_made _ refl told)
+
+pub returns-in-Ok-Some-Impossible-clause-made : goal.returns-in-Ok-Some-Impossible-clause-made
+returns-in-Ok-Some-Impossible-clause-made c = λ _ told. absurd (impossible_made _ refl told)
+
+pub returns-in_ok-push-in-Ok-Some-To-clause-impossible : goal.returns-in_ok-push-in-Ok-Some-To-clause-impossible
+returns-in_ok-push-in-Ok-Some-To-clause-impossible c = λ _ told. absurd (made_impossible _ refl told)
+
+pub returns-in-Err-clause-impossible : goal.returns-in-Err-clause-impossible
+returns-in-Err-clause-impossible c = λ _ told. absurd (failed_not _ refl told)
+
+pub returns-in-Err-clause-made : goal.returns-in-Err-clause-made
+returns-in-Err-clause-made c = λ _ told. absurd (failed_not _ refl told)
+
+pub returns-in-Err-clause-within : goal.returns-in-Err-clause-within
+returns-in-Err-clause-within c = tt

@@ -8,6 +8,7 @@ use Rattle.object_moves.specs.Effects.{effect_one}
 use Rattle.object_moves.specs.Known.{numbers_of_one, one_of, solo_label, state_at}
 use Rattle.object_moves.specs.Rows.{AreWithin}
 use Rattle.object_moves.specs.declared.known.One.TheVariants as O
+use Rattle.object_moves.proofs.LeadResults.{failed_not, impossible_made, made_impossible, unknown_impossible, unknown_made}
 use Rattle.object_moves.proofs.KnownFacts.{read_at}
 use Rattle.object_moves.proofs.RowMoves.{set_within, solo_impossible, solo_leads}
 use Rattle.object_moves.proofs.StateGrowth.{all_of, within_still}
@@ -89,3 +90,30 @@ returns-in-Ok-None-clause-within c = within_still (states c.args.self.now.table)
 
 pub returns-in-Ok-Some-Impossible-clause-within : goal.returns-in-Ok-Some-Impossible-clause-within
 returns-in-Ok-Some-Impossible-clause-within c = within_still (states c.args.self.now.table) (states c.one.new.self.table) c.args.numbers.now.items c.one.ensures.grows c.requires.within
+
+pub returns-in_default-clause-impossible : goal.returns-in_default-clause-impossible
+returns-in_default-clause-impossible c = λ _ told. absurd (unknown_impossible _ refl told)
+
+pub returns-in_default-clause-made : goal.returns-in_default-clause-made
+returns-in_default-clause-made c = λ _ told. absurd (unknown_made _ refl told)
+
+pub returns-in-Ok-None-clause-impossible : goal.returns-in-Ok-None-clause-impossible
+returns-in-Ok-None-clause-impossible c = λ _ told. absurd (unknown_impossible _ refl told)
+
+pub returns-in-Ok-None-clause-made : goal.returns-in-Ok-None-clause-made
+returns-in-Ok-None-clause-made c = λ _ told. absurd (unknown_made _ refl told)
+
+pub returns-in-Ok-Some-Impossible-clause-made : goal.returns-in-Ok-Some-Impossible-clause-made
+returns-in-Ok-Some-Impossible-clause-made c = λ _ told. absurd (impossible_made _ refl told)
+
+pub returns-in-Ok-Some-To-clause-impossible : goal.returns-in-Ok-Some-To-clause-impossible
+returns-in-Ok-Some-To-clause-impossible c = λ _ told. absurd (made_impossible _ refl told)
+
+pub returns-in-Err-clause-impossible : goal.returns-in-Err-clause-impossible
+returns-in-Err-clause-impossible c = λ _ told. absurd (failed_not _ refl told)
+
+pub returns-in-Err-clause-made : goal.returns-in-Err-clause-made
+returns-in-Err-clause-made c = λ _ told. absurd (failed_not _ refl told)
+
+pub returns-in-Err-clause-within : goal.returns-in-Err-clause-within
+returns-in-Err-clause-within c = tt

@@ -9,6 +9,7 @@ use Rattle.object_moves.specs.Effects.{effect_two}
 use Rattle.object_moves.specs.Known.{duo_label, numbers_of_two, state_at, two_of}
 use Rattle.object_moves.specs.Rows.{AreWithin}
 use Rattle.object_moves.specs.declared.known.Two.TheVariants as W
+use Rattle.object_moves.proofs.LeadResults.{failed_not, impossible_made, made_impossible, unknown_impossible, unknown_made}
 use Rattle.object_moves.proofs.KnownFacts.{read_at}
 use Rattle.object_moves.proofs.RowMoves.{duo_impossible, duo_leads, set_both_within}
 use Rattle.object_moves.proofs.StateGrowth.{all_of, within_still}
@@ -141,3 +142,48 @@ returns-in-Ok-None-clause-within c = within_still (states c.args.self.now.table)
 
 pub returns-in-Ok-Some-Impossible-clause-within : goal.returns-in-Ok-Some-Impossible-clause-within
 returns-in-Ok-Some-Impossible-clause-within c = within_still (states c.args.self.now.table) (states c.two.new.self.table) c.args.numbers.now.items c.two.ensures.grows c.requires.within
+
+pub returns-then-receiver-caller-clause-impossible : goal.returns-then-receiver-caller-clause-impossible
+returns-then-receiver-caller-clause-impossible c = λ told. absurd (unknown_impossible _ refl told)
+
+pub returns-then-receiver-caller-clause-made : goal.returns-then-receiver-caller-clause-made
+returns-then-receiver-caller-clause-made c = λ told. absurd (unknown_made _ refl told)
+
+pub returns-then-waits-clause-impossible : goal.returns-then-waits-clause-impossible
+returns-then-waits-clause-impossible c = λ told. absurd (unknown_impossible _ refl told)
+
+pub returns-then-waits-clause-made : goal.returns-then-waits-clause-made
+returns-then-waits-clause-made c = λ told. absurd (unknown_made _ refl told)
+
+pub returns-in_default-clause-impossible : goal.returns-in_default-clause-impossible
+returns-in_default-clause-impossible c = λ told. absurd (unknown_impossible _ refl told)
+
+pub returns-in_default-clause-made : goal.returns-in_default-clause-made
+returns-in_default-clause-made c = λ told. absurd (unknown_made _ refl told)
+
+pub returns-in_default-get-clause-impossible : goal.returns-in_default-get-clause-impossible
+returns-in_default-get-clause-impossible c = λ told. absurd (unknown_impossible _ refl told)
+
+pub returns-in_default-get-clause-made : goal.returns-in_default-get-clause-made
+returns-in_default-get-clause-made c = λ told. absurd (unknown_made _ refl told)
+
+pub returns-in-Ok-None-clause-impossible : goal.returns-in-Ok-None-clause-impossible
+returns-in-Ok-None-clause-impossible c = λ told. absurd (unknown_impossible _ refl told)
+
+pub returns-in-Ok-None-clause-made : goal.returns-in-Ok-None-clause-made
+returns-in-Ok-None-clause-made c = λ told. absurd (unknown_made _ refl told)
+
+pub returns-in-Ok-Some-Impossible-clause-made : goal.returns-in-Ok-Some-Impossible-clause-made
+returns-in-Ok-Some-Impossible-clause-made c = λ told. absurd (impossible_made _ refl told)
+
+pub returns-in-Ok-Some-To-clause-impossible : goal.returns-in-Ok-Some-To-clause-impossible
+returns-in-Ok-Some-To-clause-impossible c = λ told. absurd (made_impossible _ refl told)
+
+pub returns-in-Err-clause-impossible : goal.returns-in-Err-clause-impossible
+returns-in-Err-clause-impossible c = λ told. absurd (failed_not _ refl told)
+
+pub returns-in-Err-clause-made : goal.returns-in-Err-clause-made
+returns-in-Err-clause-made c = λ told. absurd (failed_not _ refl told)
+
+pub returns-in-Err-clause-within : goal.returns-in-Err-clause-within
+returns-in-Err-clause-within c = tt

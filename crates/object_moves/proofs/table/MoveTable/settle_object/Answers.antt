@@ -1,4 +1,4 @@
-use Rattle.std.proofs.Common.{◌≡◌, sym, ap, subst, ◌∙◌, ℕ, List, [], ◌∷◌, Ok, Some, Bool}
+use Rattle.std.proofs.Common.{◌≡◌, sym, ap, subst, ◌∙◌, ℕ, List, [], ◌∷◌, Ok, Some, Bool, refl}
 use Rattle.std.specs.Option.{IfSome}
 use Rattle.run_types.specs.Message.{Message}
 use Rattle.run_types.specs.Tables.{Pair}
@@ -12,6 +12,7 @@ use Rattle.search_states.specs.States.{states}
 use Rattle.object_moves.specs.Followed.{HasMoved, course}
 use Rattle.object_moves.specs.Known.{duo_label, solo_label}
 use Rattle.object_moves.specs.Rows.{row}
+use Rattle.object_moves.proofs.LeadResults.{failed_not, not_true}
 use Rattle.object_moves.proofs.FollowedMoves.{Moves, caller_changes, moved_one, moved_two, moves_both, moves_more, moves_nothing, receiver_changes, solo_changes}
 use Rattle.object_moves.proofs.FollowedRows.{return_followed}
 use Rattle.object_moves.proofs.StateGrowth.{front_of_front}
@@ -233,3 +234,30 @@ returns-then-not-is_followed-clause-follows c = λ _.
     let ks = c.rest_in.new.numbers.items in
     let rests : Rests p xs ns ys ks = subst (λ r. IfSome r (λ _. Rests p xs ns ys ks)) c.in-Some.is c.in_ok-next.ensures.follows in
     moves_nothing p (course c.args.silent) (row xs ns ms) (row ys ks ms) c.args.moved.now.items (rests c.args.silent ms)
+
+pub returns-in_default-clause-follows : goal.returns-in_default-clause-follows
+returns-in_default-clause-follows c = λ told. absurd (not_true _ refl told)
+
+pub returns-in-Ok-Unknown-clause-follows : goal.returns-in-Ok-Unknown-clause-follows
+returns-in-Ok-Unknown-clause-follows c = λ told. absurd (not_true _ refl told)
+
+pub returns-in-Ok-Impossible-clause-follows : goal.returns-in-Ok-Impossible-clause-follows
+returns-in-Ok-Impossible-clause-follows c = λ told. absurd (not_true _ refl told)
+
+pub returns-in-Ok-Unknown-make_two-clause-follows : goal.returns-in-Ok-Unknown-make_two-clause-follows
+returns-in-Ok-Unknown-make_two-clause-follows c = λ told. absurd (not_true _ refl told)
+
+pub returns-in-Ok-Impossible-make_two-clause-follows : goal.returns-in-Ok-Impossible-make_two-clause-follows
+returns-in-Ok-Impossible-make_two-clause-follows c = λ told. absurd (not_true _ refl told)
+
+pub returns-in-Err-clause-follows : goal.returns-in-Err-clause-follows
+returns-in-Err-clause-follows c = λ told. absurd (failed_not _ refl told)
+
+pub returns-in-Err-make_two-clause-follows : goal.returns-in-Err-make_two-clause-follows
+returns-in-Err-make_two-clause-follows c = λ told. absurd (failed_not _ refl told)
+
+pub returns-in-Err-clause-within : goal.returns-in-Err-clause-within
+returns-in-Err-clause-within c = tt
+
+pub returns-in-Err-make_two-clause-within : goal.returns-in-Err-make_two-clause-within
+returns-in-Err-make_two-clause-within c = tt

@@ -6,6 +6,7 @@ use Rattle.search_laws.specs.Tried.{Stays}
 use Rattle.search_states.specs.States.{states}
 use Rattle.object_moves.specs.Followed.{course}
 use Rattle.object_moves.specs.Rows.{row}
+use Rattle.object_moves.proofs.LeadResults.{failed_not, not_true}
 use Rattle.object_moves.proofs.FollowedMoves.{Moves, moves_both, moves_nothing}
 use Rattle.object_moves.proofs.StateGrowth.{all_of, front_of_front}
 use Rattle.object_moves.proofs.table.MoveTable.settle_row.Goals as goal
@@ -79,3 +80,9 @@ returns-clause-program c = c.loop-at.invariant.program
 
 pub returns-clause-within : goal.returns-clause-within
 returns-clause-within c = c.loop-at.invariant.within
+
+pub returns-in-Ok-false-clause-follows : goal.returns-in-Ok-false-clause-follows
+returns-in-Ok-false-clause-follows c = λ told. absurd (not_true _ refl told)
+
+pub returns-in-Err-clause-follows : goal.returns-in-Err-clause-follows
+returns-in-Err-clause-follows c = λ told. absurd (failed_not _ refl told)

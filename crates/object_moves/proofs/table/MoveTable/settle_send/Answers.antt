@@ -6,6 +6,7 @@ use Rattle.search_states.specs.States.{states}
 use Rattle.object_moves.specs.Followed.{HasMoved, course}
 use Rattle.object_moves.specs.Known.{parcel_label}
 use Rattle.object_moves.specs.Rows.{row}
+use Rattle.object_moves.proofs.LeadResults.{failed_not, not_true}
 use Rattle.object_moves.proofs.FollowedMoves.{moved_one, moves_more, moves_nothing, parcel_changes}
 use Rattle.object_moves.proofs.FollowedRows.{send_followed}
 use Rattle.object_moves.proofs.StateGrowth.{all_of}
@@ -83,3 +84,18 @@ returns-in_ok-push-in-Ok-Made-clause-within c = c.in-Ok-Made.ensures.within
 
 pub returns-in-Err-clause-within : goal.returns-in-Err-clause-within
 returns-in-Err-clause-within c = tt
+
+pub returns-in_default-clause-follows : goal.returns-in_default-clause-follows
+returns-in_default-clause-follows c = λ told. absurd (not_true _ refl told)
+
+pub returns-then-act-clause-follows : goal.returns-then-act-clause-follows
+returns-then-act-clause-follows c = λ told. absurd (not_true _ refl told)
+
+pub returns-in-Ok-Unknown-clause-follows : goal.returns-in-Ok-Unknown-clause-follows
+returns-in-Ok-Unknown-clause-follows c = λ told. absurd (not_true _ refl told)
+
+pub returns-in-Ok-Impossible-clause-follows : goal.returns-in-Ok-Impossible-clause-follows
+returns-in-Ok-Impossible-clause-follows c = λ told. absurd (not_true _ refl told)
+
+pub returns-in-Err-clause-follows : goal.returns-in-Err-clause-follows
+returns-in-Err-clause-follows c = λ told. absurd (failed_not _ refl told)

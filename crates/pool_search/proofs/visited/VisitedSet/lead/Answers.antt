@@ -1,4 +1,4 @@
-use Rattle.std.proofs.Common.{◌≡◌, ◌++◌, [], ◌∷◌, Ok, refl, ap, sym, subst, ◌∙◌, length, map, IsTrue, List}
+use Rattle.std.proofs.Common.{◌≡◌, ◌++◌, [], ◌∷◌, Ok, refl, ap, sym, subst, ◌∙◌, length, map, IsTrue, List, true, false, ℕ}
 use Rattle.std.specs.FinMap.Entries.{is_sorted}
 use Rattle.run_types.specs.Message.{Message}
 use Rattle.run_types.specs.Tables.{Pair, pair_cmp}
@@ -12,6 +12,13 @@ use Rattle.pool_search.specs.declared.numbered.Numbered.{Numbered}
 use Rattle.pool_search.specs.VisitedConfigurations.{kept_list, kept_lists}
 use Rattle.pool_search.proofs.StateTableGrowth.{all_still_with, list_still}
 use Rattle.pool_search.proofs.KnownLeads.{IsMade, row_of, made_between, impossible_from, kept_made, seen_from, added_from}
+use Rattle.std.specs.Prelude.{Result}
+use Rattle.std.proofs.lemmas.Result.{err_from_is_err_and}
+use Rattle.pool_search.specs.declared.visited.Found.{Found}
+use Rattle.pool_syntax.specs.TreeOf.{program_of}
+use Rattle.pool_search.specs.declared.visited.Entry.TheVariants as N
+use Rattle.pool_search.specs.declared.visited.Found.TheVariants as F
+use Rattle.pool_search.proofs.FailedResults.{not_ok}
 use Rattle.pool_search.proofs.visited.VisitedSet.lead.Goals as goal
 
 pub invariant_of-self : goal.invariant_of-self
@@ -136,3 +143,279 @@ pub returns-then-not-adds-clause-absent : goal.returns-then-not-adds-clause-abse
 returns-then-not-adds-clause-absent c = λ told.
     let k = c.args.self.now in
     list_still (table_program k.moves) (known_states k.moves) (known_states c.lead.new.self) (kept_lists k) k.entries.items c.lead.ensures.grows k.kept
+
+untrue : false ≡ true → ⊥
+untrue h = cc
+
+not_unknown_absent : {E : Type 0} (r : Result Found E) → r ≡ Ok F.Unknown → r ≡ Ok F.Absent → ⊥
+not_unknown_absent r p q = cc
+
+not_unknown_impossible : {E : Type 0} (r : Result Found E) → r ≡ Ok F.Unknown → r ≡ Ok F.Impossible → ⊥
+not_unknown_impossible r p q = cc
+
+not_unknown_seen : {E : Type 0} {m : ℕ} (r : Result Found E) → r ≡ Ok F.Unknown → r ≡ Ok (F.At (N.Seen m)) → ⊥
+not_unknown_seen r p q = cc
+
+not_unknown_added : {E : Type 0} {m : ℕ} (r : Result Found E) → r ≡ Ok F.Unknown → r ≡ Ok (F.At (N.Added m)) → ⊥
+not_unknown_added r p q = cc
+
+not_impossible_absent : {E : Type 0} (r : Result Found E) → r ≡ Ok F.Impossible → r ≡ Ok F.Absent → ⊥
+not_impossible_absent r p q = cc
+
+not_impossible_unknown : {E : Type 0} (r : Result Found E) → r ≡ Ok F.Impossible → r ≡ Ok F.Unknown → ⊥
+not_impossible_unknown r p q = cc
+
+not_impossible_seen : {E : Type 0} {m : ℕ} (r : Result Found E) → r ≡ Ok F.Impossible → r ≡ Ok (F.At (N.Seen m)) → ⊥
+not_impossible_seen r p q = cc
+
+not_impossible_added : {E : Type 0} {m : ℕ} (r : Result Found E) → r ≡ Ok F.Impossible → r ≡ Ok (F.At (N.Added m)) → ⊥
+not_impossible_added r p q = cc
+
+not_seen_absent : {E : Type 0} {n : ℕ} (r : Result Found E) → r ≡ Ok (F.At (N.Seen n)) → r ≡ Ok F.Absent → ⊥
+not_seen_absent r p q = cc
+
+not_seen_unknown : {E : Type 0} {n : ℕ} (r : Result Found E) → r ≡ Ok (F.At (N.Seen n)) → r ≡ Ok F.Unknown → ⊥
+not_seen_unknown r p q = cc
+
+not_seen_impossible : {E : Type 0} {n : ℕ} (r : Result Found E) → r ≡ Ok (F.At (N.Seen n)) → r ≡ Ok F.Impossible → ⊥
+not_seen_impossible r p q = cc
+
+not_seen_added : {E : Type 0} {n : ℕ} {m : ℕ} (r : Result Found E) → r ≡ Ok (F.At (N.Seen n)) → r ≡ Ok (F.At (N.Added m)) → ⊥
+not_seen_added r p q = cc
+
+not_absent_unknown : {E : Type 0} (r : Result Found E) → r ≡ Ok F.Absent → r ≡ Ok F.Unknown → ⊥
+not_absent_unknown r p q = cc
+
+not_absent_impossible : {E : Type 0} (r : Result Found E) → r ≡ Ok F.Absent → r ≡ Ok F.Impossible → ⊥
+not_absent_impossible r p q = cc
+
+not_absent_seen : {E : Type 0} {m : ℕ} (r : Result Found E) → r ≡ Ok F.Absent → r ≡ Ok (F.At (N.Seen m)) → ⊥
+not_absent_seen r p q = cc
+
+not_absent_added : {E : Type 0} {m : ℕ} (r : Result Found E) → r ≡ Ok F.Absent → r ≡ Ok (F.At (N.Added m)) → ⊥
+not_absent_added r p q = cc
+
+not_added_absent : {E : Type 0} {n : ℕ} (r : Result Found E) → r ≡ Ok (F.At (N.Added n)) → r ≡ Ok F.Absent → ⊥
+not_added_absent r p q = cc
+
+not_added_unknown : {E : Type 0} {n : ℕ} (r : Result Found E) → r ≡ Ok (F.At (N.Added n)) → r ≡ Ok F.Unknown → ⊥
+not_added_unknown r p q = cc
+
+not_added_impossible : {E : Type 0} {n : ℕ} (r : Result Found E) → r ≡ Ok (F.At (N.Added n)) → r ≡ Ok F.Impossible → ⊥
+not_added_impossible r p q = cc
+
+not_added_seen : {E : Type 0} {n : ℕ} {m : ℕ} (r : Result Found E) → r ≡ Ok (F.At (N.Added n)) → r ≡ Ok (F.At (N.Seen m)) → ⊥
+not_added_seen r p q = cc
+
+pub returns-in-Ok-Unknown-clause-program : goal.returns-in-Ok-Unknown-clause-program
+returns-in-Ok-Unknown-clause-program c = ap (λ p. program_of p.now) c.lead.ensures.program
+
+pub returns-in-Ok-Unknown-clause-lists : goal.returns-in-Ok-Unknown-clause-lists
+returns-in-Ok-Unknown-clause-lists c = refl
+
+pub returns-in-Ok-Unknown-clause-absent : goal.returns-in-Ok-Unknown-clause-absent
+returns-in-Ok-Unknown-clause-absent c = λ told. absurd (not_unknown_absent _ refl told)
+
+pub returns-in-Ok-Unknown-clause-impossible : goal.returns-in-Ok-Unknown-clause-impossible
+returns-in-Ok-Unknown-clause-impossible c = λ told. absurd (not_unknown_impossible _ refl told)
+
+pub returns-in-Ok-Unknown-clause-seen : goal.returns-in-Ok-Unknown-clause-seen
+returns-in-Ok-Unknown-clause-seen c = λ i told. absurd (not_unknown_seen _ refl told)
+
+pub returns-in-Ok-Unknown-clause-added : goal.returns-in-Ok-Unknown-clause-added
+returns-in-Ok-Unknown-clause-added c = λ i told. absurd (not_unknown_added _ refl told)
+
+pub returns-in-Ok-Impossible-clause-program : goal.returns-in-Ok-Impossible-clause-program
+returns-in-Ok-Impossible-clause-program c = ap (λ p. program_of p.now) c.lead.ensures.program
+
+pub returns-in-Ok-Impossible-clause-lists : goal.returns-in-Ok-Impossible-clause-lists
+returns-in-Ok-Impossible-clause-lists c = refl
+
+pub returns-in-Ok-Impossible-clause-absent : goal.returns-in-Ok-Impossible-clause-absent
+returns-in-Ok-Impossible-clause-absent c = λ told. absurd (not_impossible_absent _ refl told)
+
+pub returns-in-Ok-Impossible-clause-unknown : goal.returns-in-Ok-Impossible-clause-unknown
+returns-in-Ok-Impossible-clause-unknown c = λ told. absurd (not_impossible_unknown _ refl told)
+
+pub returns-in-Ok-Impossible-clause-seen : goal.returns-in-Ok-Impossible-clause-seen
+returns-in-Ok-Impossible-clause-seen c = λ i told. absurd (not_impossible_seen _ refl told)
+
+pub returns-in-Ok-Impossible-clause-added : goal.returns-in-Ok-Impossible-clause-added
+returns-in-Ok-Impossible-clause-added c = λ i told. absurd (not_impossible_added _ refl told)
+
+pub returns-in-Some-clause-program : goal.returns-in-Some-clause-program
+returns-in-Some-clause-program c = ap (λ p. program_of p.now) c.lead.ensures.program
+
+pub returns-in-Some-clause-lists : goal.returns-in-Some-clause-lists
+returns-in-Some-clause-lists c = refl
+
+pub returns-in-Some-clause-absent : goal.returns-in-Some-clause-absent
+returns-in-Some-clause-absent c = λ told. absurd (not_seen_absent _ refl told)
+
+pub returns-in-Some-clause-unknown : goal.returns-in-Some-clause-unknown
+returns-in-Some-clause-unknown c = λ told. absurd (not_seen_unknown _ refl told)
+
+pub returns-in-Some-clause-impossible : goal.returns-in-Some-clause-impossible
+returns-in-Some-clause-impossible c = λ told. absurd (not_seen_impossible _ refl told)
+
+pub returns-in-Some-clause-added : goal.returns-in-Some-clause-added
+returns-in-Some-clause-added c = λ i told. absurd (not_seen_added _ refl told)
+
+pub returns-then-not-adds-clause-program : goal.returns-then-not-adds-clause-program
+returns-then-not-adds-clause-program c = ap (λ p. program_of p.now) c.lead.ensures.program
+
+pub returns-then-not-adds-clause-lists : goal.returns-then-not-adds-clause-lists
+returns-then-not-adds-clause-lists c = refl
+
+pub returns-then-not-adds-clause-unknown : goal.returns-then-not-adds-clause-unknown
+returns-then-not-adds-clause-unknown c = λ told. absurd (not_absent_unknown _ refl told)
+
+pub returns-then-not-adds-clause-impossible : goal.returns-then-not-adds-clause-impossible
+returns-then-not-adds-clause-impossible c = λ told. absurd (not_absent_impossible _ refl told)
+
+pub returns-then-not-adds-clause-seen : goal.returns-then-not-adds-clause-seen
+returns-then-not-adds-clause-seen c = λ i told. absurd (not_absent_seen _ refl told)
+
+pub returns-then-not-adds-clause-added : goal.returns-then-not-adds-clause-added
+returns-then-not-adds-clause-added c = λ i told. absurd (not_absent_added _ refl told)
+
+pub returns-in-Some-2-clause-program : goal.returns-in-Some-2-clause-program
+returns-in-Some-2-clause-program c = c.add.ensures.program ∙ ap (λ p. program_of p.now) c.lead.ensures.program
+
+pub returns-in-Some-2-clause-lists : goal.returns-in-Some-2-clause-lists
+returns-in-Some-2-clause-lists c = c.add.ensures.lists
+
+pub returns-in-Some-2-clause-only : goal.returns-in-Some-2-clause-only
+returns-in-Some-2-clause-only c = λ told. absurd (untrue (sym told ∙ c.if-not-adds.false))
+
+pub returns-in-Some-2-clause-absent : goal.returns-in-Some-2-clause-absent
+returns-in-Some-2-clause-absent c = λ told. absurd (not_added_absent _ refl told)
+
+pub returns-in-Some-2-clause-unknown : goal.returns-in-Some-2-clause-unknown
+returns-in-Some-2-clause-unknown c = λ told. absurd (not_added_unknown _ refl told)
+
+pub returns-in-Some-2-clause-impossible : goal.returns-in-Some-2-clause-impossible
+returns-in-Some-2-clause-impossible c = λ told. absurd (not_added_impossible _ refl told)
+
+pub returns-in-Some-2-clause-seen : goal.returns-in-Some-2-clause-seen
+returns-in-Some-2-clause-seen c = λ i told. absurd (not_added_seen _ refl told)
+
+pub returns-clause-program : goal.returns-clause-program
+returns-clause-program c = c.add.ensures.program ∙ ap (λ p. program_of p.now) c.lead.ensures.program
+
+pub returns-clause-lists : goal.returns-clause-lists
+returns-clause-lists c = c.add.ensures.lists
+
+pub returns-clause-only : goal.returns-clause-only
+returns-clause-only c = λ told. absurd (untrue (sym told ∙ c.if-not-adds.false))
+
+pub returns-clause-absent : goal.returns-clause-absent
+returns-clause-absent c = λ told. absurd (not_unknown_absent _ refl told)
+
+pub returns-clause-impossible : goal.returns-clause-impossible
+returns-clause-impossible c = λ told. absurd (not_unknown_impossible _ refl told)
+
+pub returns-clause-seen : goal.returns-clause-seen
+returns-clause-seen c = λ i told. absurd (not_unknown_seen _ refl told)
+
+pub returns-clause-added : goal.returns-clause-added
+returns-clause-added c = λ i told. absurd (not_unknown_added _ refl told)
+
+pub returns-in-Err-clause-program : goal.returns-in-Err-clause-program
+returns-in-Err-clause-program c = ap (λ p. program_of p.now) c.lead.ensures.program
+
+pub returns-in-Err-clause-lists : goal.returns-in-Err-clause-lists
+returns-in-Err-clause-lists c = refl
+
+pub returns-in_err-objects-clause-program : goal.returns-in_err-objects-clause-program
+returns-in_err-objects-clause-program c = refl
+
+pub returns-in_err-objects-clause-lists : goal.returns-in_err-objects-clause-lists
+returns-in_err-objects-clause-lists c = refl
+
+pub returns-in_err-objects-clause-only : goal.returns-in_err-objects-clause-only
+returns-in_err-objects-clause-only c = λ told. refl
+
+pub returns-in_err-objects-clause-absent : goal.returns-in_err-objects-clause-absent
+returns-in_err-objects-clause-absent c = λ told. absurd (not_ok c.from_residual.result (err_from_is_err_and c.from_residual.result c.from_residual.ensures.1).0 F.Absent (err_from_is_err_and c.from_residual.result c.from_residual.ensures.1).1 told)
+
+pub returns-in_err-objects-clause-unknown : goal.returns-in_err-objects-clause-unknown
+returns-in_err-objects-clause-unknown c = λ told. absurd (not_ok c.from_residual.result (err_from_is_err_and c.from_residual.result c.from_residual.ensures.1).0 F.Unknown (err_from_is_err_and c.from_residual.result c.from_residual.ensures.1).1 told)
+
+pub returns-in_err-objects-clause-impossible : goal.returns-in_err-objects-clause-impossible
+returns-in_err-objects-clause-impossible c = λ told. absurd (not_ok c.from_residual.result (err_from_is_err_and c.from_residual.result c.from_residual.ensures.1).0 F.Impossible (err_from_is_err_and c.from_residual.result c.from_residual.ensures.1).1 told)
+
+pub returns-in_err-objects-clause-seen : goal.returns-in_err-objects-clause-seen
+returns-in_err-objects-clause-seen c = λ i told. absurd (not_ok c.from_residual.result (err_from_is_err_and c.from_residual.result c.from_residual.ensures.1).0 (F.At (N.Seen i)) (err_from_is_err_and c.from_residual.result c.from_residual.ensures.1).1 told)
+
+pub returns-in_err-objects-clause-added : goal.returns-in_err-objects-clause-added
+returns-in_err-objects-clause-added c = λ i told. absurd (not_ok c.from_residual.result (err_from_is_err_and c.from_residual.result c.from_residual.ensures.1).0 (F.At (N.Added i)) (err_from_is_err_and c.from_residual.result c.from_residual.ensures.1).1 told)
+
+pub returns-in_err-messages-clause-program : goal.returns-in_err-messages-clause-program
+returns-in_err-messages-clause-program c = refl
+
+pub returns-in_err-messages-clause-lists : goal.returns-in_err-messages-clause-lists
+returns-in_err-messages-clause-lists c = refl
+
+pub returns-in_err-messages-clause-only : goal.returns-in_err-messages-clause-only
+returns-in_err-messages-clause-only c = λ told. refl
+
+pub returns-in_err-messages-clause-absent : goal.returns-in_err-messages-clause-absent
+returns-in_err-messages-clause-absent c = λ told. absurd (not_ok c.from_residual-in_err-messages.result (err_from_is_err_and c.from_residual-in_err-messages.result c.from_residual-in_err-messages.ensures.1).0 F.Absent (err_from_is_err_and c.from_residual-in_err-messages.result c.from_residual-in_err-messages.ensures.1).1 told)
+
+pub returns-in_err-messages-clause-unknown : goal.returns-in_err-messages-clause-unknown
+returns-in_err-messages-clause-unknown c = λ told. absurd (not_ok c.from_residual-in_err-messages.result (err_from_is_err_and c.from_residual-in_err-messages.result c.from_residual-in_err-messages.ensures.1).0 F.Unknown (err_from_is_err_and c.from_residual-in_err-messages.result c.from_residual-in_err-messages.ensures.1).1 told)
+
+pub returns-in_err-messages-clause-impossible : goal.returns-in_err-messages-clause-impossible
+returns-in_err-messages-clause-impossible c = λ told. absurd (not_ok c.from_residual-in_err-messages.result (err_from_is_err_and c.from_residual-in_err-messages.result c.from_residual-in_err-messages.ensures.1).0 F.Impossible (err_from_is_err_and c.from_residual-in_err-messages.result c.from_residual-in_err-messages.ensures.1).1 told)
+
+pub returns-in_err-messages-clause-seen : goal.returns-in_err-messages-clause-seen
+returns-in_err-messages-clause-seen c = λ i told. absurd (not_ok c.from_residual-in_err-messages.result (err_from_is_err_and c.from_residual-in_err-messages.result c.from_residual-in_err-messages.ensures.1).0 (F.At (N.Seen i)) (err_from_is_err_and c.from_residual-in_err-messages.result c.from_residual-in_err-messages.ensures.1).1 told)
+
+pub returns-in_err-messages-clause-added : goal.returns-in_err-messages-clause-added
+returns-in_err-messages-clause-added c = λ i told. absurd (not_ok c.from_residual-in_err-messages.result (err_from_is_err_and c.from_residual-in_err-messages.result c.from_residual-in_err-messages.ensures.1).0 (F.At (N.Added i)) (err_from_is_err_and c.from_residual-in_err-messages.result c.from_residual-in_err-messages.ensures.1).1 told)
+
+pub returns-in_err-queues-clause-program : goal.returns-in_err-queues-clause-program
+returns-in_err-queues-clause-program c = ap (λ p. program_of p.now) c.lead.ensures.program
+
+pub returns-in_err-queues-clause-lists : goal.returns-in_err-queues-clause-lists
+returns-in_err-queues-clause-lists c = refl
+
+pub returns-in_err-queues-clause-absent : goal.returns-in_err-queues-clause-absent
+returns-in_err-queues-clause-absent c = λ told. absurd (not_ok c.from_residual-in_err-queues.result (err_from_is_err_and c.from_residual-in_err-queues.result c.from_residual-in_err-queues.ensures.1).0 F.Absent (err_from_is_err_and c.from_residual-in_err-queues.result c.from_residual-in_err-queues.ensures.1).1 told)
+
+pub returns-in_err-queues-clause-unknown : goal.returns-in_err-queues-clause-unknown
+returns-in_err-queues-clause-unknown c = λ told. absurd (not_ok c.from_residual-in_err-queues.result (err_from_is_err_and c.from_residual-in_err-queues.result c.from_residual-in_err-queues.ensures.1).0 F.Unknown (err_from_is_err_and c.from_residual-in_err-queues.result c.from_residual-in_err-queues.ensures.1).1 told)
+
+pub returns-in_err-queues-clause-impossible : goal.returns-in_err-queues-clause-impossible
+returns-in_err-queues-clause-impossible c = λ told. absurd (not_ok c.from_residual-in_err-queues.result (err_from_is_err_and c.from_residual-in_err-queues.result c.from_residual-in_err-queues.ensures.1).0 F.Impossible (err_from_is_err_and c.from_residual-in_err-queues.result c.from_residual-in_err-queues.ensures.1).1 told)
+
+pub returns-in_err-queues-clause-seen : goal.returns-in_err-queues-clause-seen
+returns-in_err-queues-clause-seen c = λ i told. absurd (not_ok c.from_residual-in_err-queues.result (err_from_is_err_and c.from_residual-in_err-queues.result c.from_residual-in_err-queues.ensures.1).0 (F.At (N.Seen i)) (err_from_is_err_and c.from_residual-in_err-queues.result c.from_residual-in_err-queues.ensures.1).1 told)
+
+pub returns-in_err-queues-clause-added : goal.returns-in_err-queues-clause-added
+returns-in_err-queues-clause-added c = λ i told. absurd (not_ok c.from_residual-in_err-queues.result (err_from_is_err_and c.from_residual-in_err-queues.result c.from_residual-in_err-queues.ensures.1).0 (F.At (N.Added i)) (err_from_is_err_and c.from_residual-in_err-queues.result c.from_residual-in_err-queues.ensures.1).1 told)
+
+pub returns-in_err-at-in-None-clause-program : goal.returns-in_err-at-in-None-clause-program
+returns-in_err-at-in-None-clause-program c = c.add.ensures.program ∙ ap (λ p. program_of p.now) c.lead.ensures.program
+
+pub returns-in_err-at-in-None-clause-lists : goal.returns-in_err-at-in-None-clause-lists
+returns-in_err-at-in-None-clause-lists c = c.add.ensures.lists
+
+pub returns-in_err-at-in-None-clause-only : goal.returns-in_err-at-in-None-clause-only
+returns-in_err-at-in-None-clause-only c = λ told. absurd (untrue (sym told ∙ c.if-not-adds.false))
+
+pub returns-in_err-at-in-None-clause-absent : goal.returns-in_err-at-in-None-clause-absent
+returns-in_err-at-in-None-clause-absent c = λ told. absurd (not_ok c.from_residual-in_err-at-in-None.result (err_from_is_err_and c.from_residual-in_err-at-in-None.result c.from_residual-in_err-at-in-None.ensures.1).0 F.Absent (err_from_is_err_and c.from_residual-in_err-at-in-None.result c.from_residual-in_err-at-in-None.ensures.1).1 told)
+
+pub returns-in_err-at-in-None-clause-unknown : goal.returns-in_err-at-in-None-clause-unknown
+returns-in_err-at-in-None-clause-unknown c = λ told. absurd (not_ok c.from_residual-in_err-at-in-None.result (err_from_is_err_and c.from_residual-in_err-at-in-None.result c.from_residual-in_err-at-in-None.ensures.1).0 F.Unknown (err_from_is_err_and c.from_residual-in_err-at-in-None.result c.from_residual-in_err-at-in-None.ensures.1).1 told)
+
+pub returns-in_err-at-in-None-clause-impossible : goal.returns-in_err-at-in-None-clause-impossible
+returns-in_err-at-in-None-clause-impossible c = λ told. absurd (not_ok c.from_residual-in_err-at-in-None.result (err_from_is_err_and c.from_residual-in_err-at-in-None.result c.from_residual-in_err-at-in-None.ensures.1).0 F.Impossible (err_from_is_err_and c.from_residual-in_err-at-in-None.result c.from_residual-in_err-at-in-None.ensures.1).1 told)
+
+pub returns-in_err-at-in-None-clause-seen : goal.returns-in_err-at-in-None-clause-seen
+returns-in_err-at-in-None-clause-seen c = λ i told. absurd (not_ok c.from_residual-in_err-at-in-None.result (err_from_is_err_and c.from_residual-in_err-at-in-None.result c.from_residual-in_err-at-in-None.ensures.1).0 (F.At (N.Seen i)) (err_from_is_err_and c.from_residual-in_err-at-in-None.result c.from_residual-in_err-at-in-None.ensures.1).1 told)
+
+pub returns-in_err-at-in-None-clause-added : goal.returns-in_err-at-in-None-clause-added
+returns-in_err-at-in-None-clause-added c = λ i told. absurd (not_ok c.from_residual-in_err-at-in-None.result (err_from_is_err_and c.from_residual-in_err-at-in-None.result c.from_residual-in_err-at-in-None.ensures.1).0 (F.At (N.Added i)) (err_from_is_err_and c.from_residual-in_err-at-in-None.result c.from_residual-in_err-at-in-None.ensures.1).1 told)

@@ -15,15 +15,15 @@ use Rattle.pool_search.specs.Trials.{SettlesAt}
 use Rattle.pool_search.proofs.ListGrowth.{each_at}
 use Rattle.pool_search.proofs.RunExtension.{reached_more}
 use Rattle.pool_search.proofs.EntryExpansion.{entry_there, items_after, led_at}
-use Rattle.pool_search.proofs.explored.Explored.follow_whole.Goals as goal
+use Rattle.pool_search.proofs.explored.Explored.follow_from.Goals as goal
 
 pub returns-in-Err-NotPossible-clause-impossible : goal.returns-in-Err-NotPossible-clause-impossible
 returns-in-Err-NotPossible-clause-impossible c = λ told e there.
     let p = searched c.args.self.now in
     let label = c.args.label.now in
-    let from = configuration_of c.in_ok-plain.plain in
-    let is : from ≡ e.configuration = subst (λ o. IfSome o (λ x. from ≡ x.configuration)) there c.in_ok-plain.ensures.configuration in
-    let none : transition p from label ≡ None = subst (λ (q : ProgramTree). transition q from label ≡ None) c.in_ok-plain.ensures.program (c.in-Err-NotPossible.ensures.refused c.in-Err-NotPossible.field-0-0 (ap Err c.in-Err-NotPossible.field-0-is)).0 in
+    let from = configuration_of c.args.plain.now in
+    let is : from ≡ e.configuration = subst (λ o. IfSome o (λ x. from ≡ x.configuration)) there c.requires.at in
+    let none : transition p from label ≡ None = subst (λ (q : ProgramTree). transition q from label ≡ None) c.requires.same (c.in-Err-NotPossible.ensures.refused c.in-Err-NotPossible.field-0-0 (ap Err c.in-Err-NotPossible.field-0-is)).0 in
     subst (λ (d : Configuration). transition p d label ≡ None) is none
 
 pub settle_and_keep-requires-clause-reached : goal.settle_and_keep-requires-clause-reached
@@ -32,65 +32,65 @@ settle_and_keep-requires-clause-reached c =
     let k = course_of c.args.scope.keeps in
     let at = c.args.origin.from in
     let label = c.args.label.now in
-    let from = configuration_of c.in_ok-plain.plain in
+    let from = configuration_of c.args.plain.now in
     let to = configuration_of c.apply.new.self in
     let old = lists c.args.self.now in
     let new = lists c.written_after.new.self in
     let es = entries c.args.self.now in
     let before = c.written-before.result in
-    let written = c.in-Some-2.written in
+    let written = c.in-Ok-Some.written in
     let here = entry_there es at c.requires.exists in
     let e = here.0 in
-    let is : from ≡ e.configuration = subst (λ o. IfSome o (λ x. from ≡ x.configuration)) here.1 c.in_ok-plain.ensures.configuration in
-    let step : transition p from label ≡ Some to = subst (λ (q : ProgramTree). transition q from label ≡ Some to) c.in_ok-plain.ensures.program c.in-Ok.ensures.made in
+    let is : from ≡ e.configuration = subst (λ o. IfSome o (λ x. from ≡ x.configuration)) here.1 c.requires.at in
+    let step : transition p from label ≡ Some to = subst (λ (q : ProgramTree). transition q from label ≡ Some to) c.requires.same c.in-Ok.ensures.made in
     let reached : IsReachedWith p k e.items e.configuration = each_at (λ (x : Passed). IsReachedWith p k x.items x.configuration) es at e c.requires.reached here.1 in
     let more : IsReachedWith p k (e.items ++ k.keeps label) to =
     reached_more p k e.items e.configuration to label reached (subst (λ (d : Configuration). transition p d label ≡ Some to) is step)
     in
     let number : (get_or new written [] ≡ get_or old before [] ++ k.keeps label) × (written < length new) =
-    subst (λ o. IfSome o (λ n. (get_or new n [] ≡ get_or old before [] ++ k.keeps label) × (n < length new))) c.in-Some-2.is c.in_ok-written.ensures.number
+    subst (λ o. IfSome o (λ n. (get_or new n [] ≡ get_or old before [] ++ k.keeps label) × (n < length new))) c.in-Ok-Some.field-0-is c.in-Ok-Some.ensures.number
     in
     let kept : get_or new written [] ≡ e.items ++ k.keeps label = items_after es at e old new before written (k.keeps label) here.1 c.written-before.ensures.list number.0 in
     subst (λ (q : ProgramTree). IsReachedWith q k (get_or new written []) to) (sym c.written_after.ensures.program) (subst (λ (v : List Item). IsReachedWith p k v to) (sym kept) more)
 
-pub returns-in-Some-3-clause-grows : goal.returns-in-Some-3-clause-grows
-returns-in-Some-3-clause-grows c =
+pub returns-in-Ok-Some-settle_and_keep-clause-grows : goal.returns-in-Ok-Some-settle_and_keep-clause-grows
+returns-in-Ok-Some-settle_and_keep-clause-grows c =
     let p = searched c.args.self.now in
     let k = course_of c.args.scope.keeps in
     let most = c.args.scope.most in
     let before = entries c.written_after.new.self in
     let after = entries c.settle_and_keep.new.self in
     let grows : Grows (searched c.written_after.new.self) k most before after =
-    subst (λ o. IfSome o (λ _. Grows (searched c.written_after.new.self) k most before after)) c.in-Some-3.is c.in_ok-place.ensures.grows
+    subst (λ o. IfSome o (λ _. Grows (searched c.written_after.new.self) k most before after)) c.in-Ok-Some-settle_and_keep.field-0-is c.in-Ok-Some-settle_and_keep.ensures.grows
     in
     λ _. subst (λ (es : Entries). Grows p k most es after) c.written_after.ensures.same (subst (λ (q : ProgramTree). Grows q k most before after) c.written_after.ensures.program grows)
 
-pub returns-in-Some-3-clause-led : goal.returns-in-Some-3-clause-led
-returns-in-Some-3-clause-led c = λ i told e there.
+pub returns-in-Ok-Some-settle_and_keep-clause-led : goal.returns-in-Ok-Some-settle_and_keep-clause-led
+returns-in-Ok-Some-settle_and_keep-clause-led c = λ i told e there.
     let p = searched c.args.self.now in
     let k = course_of c.args.scope.keeps in
     let label = c.args.label.now in
-    let from = configuration_of c.in_ok-plain.plain in
+    let from = configuration_of c.args.plain.now in
     let to = configuration_of c.apply.new.self in
-    let place = c.in-Some-3.place in
+    let place = c.in-Ok-Some-settle_and_keep.place in
     let is : place ≡ i = cc in
     let old = lists c.args.self.now in
     let new = lists c.written_after.new.self in
     let es = entries c.settle_and_keep.new.self in
     let before = c.written-before.result in
-    let written = c.in-Some-2.written in
+    let written = c.in-Ok-Some.written in
     let after = c.in-Some.after in
-    let at : from ≡ e.configuration = subst (λ o. IfSome o (λ x. from ≡ x.configuration)) there c.in_ok-plain.ensures.configuration in
+    let at : from ≡ e.configuration = subst (λ o. IfSome o (λ x. from ≡ x.configuration)) there c.requires.at in
     let name : c.next_name.result ≡ e.next = subst (λ o. IfSome o (λ x. c.next_name.result ≡ x.next)) there c.next_name.ensures in
-    let step : transition p from label ≡ Some to = subst (λ (q : ProgramTree). transition q from label ≡ Some to) c.in_ok-plain.ensures.program c.in-Ok.ensures.made in
+    let step : transition p from label ≡ Some to = subst (λ (q : ProgramTree). transition q from label ≡ Some to) c.requires.same c.in-Ok.ensures.made in
     let number : (get_or new written [] ≡ get_or old before [] ++ k.keeps label) × (written < length new) =
-    subst (λ o. IfSome o (λ n. (get_or new n [] ≡ get_or old before [] ++ k.keeps label) × (n < length new))) c.in-Some-2.is c.in_ok-written.ensures.number
+    subst (λ o. IfSome o (λ n. (get_or new n [] ≡ get_or old before [] ++ k.keeps label) × (n < length new))) c.in-Ok-Some.field-0-is c.in-Ok-Some.ensures.number
     in
     let kept : get_or new written [] ≡ e.items ++ k.keeps label =
     items_after (entries c.args.self.now) c.args.origin.from e old new before written (k.keeps label) there c.written-before.ensures.list number.0
     in
     let settled : SettlesAt (searched c.written_after.new.self) k es after (get_or new written []) to place =
-    subst (λ o. IfSome o (λ j. SettlesAt (searched c.written_after.new.self) k es after (get_or new written []) to j)) c.in-Some-3.is c.in_ok-place.ensures.leads
+    subst (λ o. IfSome o (λ j. SettlesAt (searched c.written_after.new.self) k es after (get_or new written []) to j)) c.in-Ok-Some-settle_and_keep.field-0-is c.in-Ok-Some-settle_and_keep.ensures.leads
     in
     let settles : SettlesAt p k es after (get_or new written []) to place = subst (λ (q : ProgramTree). SettlesAt q k es after (get_or new written []) to place) c.written_after.ensures.program settled in
     let led : LeadsAt p k es e.next e.items e.configuration label place =
