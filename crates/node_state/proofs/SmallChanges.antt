@@ -1,6 +1,6 @@
 -- The change of a slot that each small change of the parts of a node makes.
 use Rattle.std.proofs.Common.{◌≡◌, ◌≢◌, inl, inr, refl, sym, ap, ap₂, subst, ◌∙◌, ℕ, ◌<◌, ◌≤◌, List, [], ◌∷◌, ◌++◌, length, get_or, Option, Some, None, Bool, true, false, arith}
-use Rattle.std.specs.Prelude.{slice_get, slice_set, OnOk, is_ok, nat_le}
+use Rattle.std.specs.Prelude.{slice_get, slice_set, IsErr, OnOk, is_ok, nat_le}
 use Rattle.std.specs.declared.result.Result.{Result}
 use Rattle.std.specs.declared.result.Result.TheVariants.{Ok, Err}
 use Rattle.std.proofs.lemmas.Bool.Decides.{nat_tests}
@@ -257,6 +257,10 @@ module _ (u : Code) (p : NodeParts) (whole : NodeInvariant p) (of : IsOfUnit u (
 pub on_ok : {X E : Type 0} (r : Result X E) (P : Type 0) → OnOk r P → is_ok r ≡ true → P
 on_ok (Ok x) P h e = h
 on_ok (Err x) P h e = absurd (cc)
+
+pub not_ok : {X E : Type 0} (r : Result X E) → is_ok r ≡ false → IsErr r
+not_ok (Ok x) e = absurd (cc)
+not_ok (Err x) e = refl
 
 -- a slot of which a number is out
 module _ (p : NodeParts) (whole : NodeInvariant p) (i number : ℕ) (out : slice_get p.outstanding i ≡ Some (Some number)) where

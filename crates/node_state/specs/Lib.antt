@@ -5,5 +5,6 @@ pub mod OfUnit
 pub mod Views
 pub mod Choices
 pub mod Changes
+pub mod Served
 pub mod Bits
 pub mod Words

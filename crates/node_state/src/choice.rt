@@ -4,8 +4,8 @@ ghost use Rattle.code_semantics.specs.Proper.{IsProper};
 ghost use Rattle.code_semantics.specs.StepInstructions.{FitsUnit, IsAtStep};
 ghost use Rattle.mailbox.specs.Mail.{box_of};
 ghost use Rattle.node_heap.specs.Heaps.{object_at};
-ghost use Rattle.object_interp.specs.Offers.{offer_at, offers_at, open_names};
-ghost use Rattle.node_state.specs.Choices.{first_of_these, may_go, place_called};
+ghost use Rattle.object_interp.specs.Offers.{offer_at, offers_at};
+ghost use Rattle.node_state.specs.Choices.{first_of_these, may_go};
 
 use crate::state::NodeParts;
 use code_semantics::Unit;
@@ -26,23 +26,8 @@ impl NodeParts {
             return true;
         }
         match answer_names(unit, &self.heap, slot, alt) {
-            Some(names) => self.mailbox.first(slot, names).is_some(),
+            Some(names) => self.mailbox.has_first(slot, names),
             None => false,
-        }
-    }
-
-    /// The index of the first message of a slot that alternative `alt`, counted from 1, answers. None if there is none.
-    pub fn called_place(&self, unit: &Unit, slot: u32, alt: u32) -> Option<usize>
-        requires proper { IsProper unit.now }
-        requires slot { slot < length self.now.heap.objects }
-        requires room { slot < length self.now.mailbox.boxes }
-        requires fits { FitsUnit unit.now (object_at self.now.heap slot) }
-        requires rests { IsAtStep unit.now (object_at self.now.heap slot) }
-        ensures { result ≡ place_called (box_of self.now.mailbox slot) (open_names (offer_at (offers_at unit.now (object_at self.now.heap slot)) alt)) }
-    {
-        match answer_names(unit, &self.heap, slot, alt) {
-            Some(names) => self.mailbox.first(slot, names),
-            None => None,
         }
     }
 

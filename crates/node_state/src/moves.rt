@@ -1,5 +1,5 @@
 //! The small changes of a node: each changes one slot and its ready bit.
-ghost use Rattle.std.specs.Prelude.{◌≡◌, ◌↔◌, ℕ, ◌<◌, ◌++◌, ◌∷◌, [], true, None, Some, Err, IfOk, OnOk, OnErr, length, get_or, slice_get, remove};
+ghost use Rattle.std.specs.Prelude.{◌≡◌, ◌↔◌, ℕ, ◌<◌, ◌++◌, ◌∷◌, [], true, None, Some, Err, IfOk, OnOk, OnErr, length, get_or};
 ghost use Rattle.std.specs.List.{list_any};
 ghost use Rattle.run_types.specs.declared.types.Value as V;
 ghost use Rattle.code_semantics.specs.Kinds as C;
@@ -7,8 +7,7 @@ ghost use Rattle.code_semantics.specs.Kinds.{code_kind};
 ghost use Rattle.code_semantics.specs.Step.{code_placed, code_serving};
 ghost use Rattle.run_types.specs.declared.frames.CodeObject.{CodeObject};
 ghost use Rattle.code_semantics.specs.Forget.{forget};
-ghost use Rattle.mailbox.specs.declared.Message.{Message as OneMessage};
-ghost use Rattle.object_interp.specs.Offers.{IsChoosing, IsSelecting, answers_to, is_open_plain, offer_at, offers_at, open_names};
+ghost use Rattle.object_interp.specs.Offers.{IsChoosing, IsSelecting, is_open_plain, offer_at, offers_at, open_names};
 ghost use Rattle.mesh_of_code.specs.Coded.{coded, kind_of, placed};
 ghost use Rattle.node_heap.specs.Heaps.{frames_used, object_at};
 ghost use Rattle.mailbox.specs.Mail.{box_of, lengths};
@@ -19,13 +18,15 @@ ghost use Rattle.rendezvous_protocol.specs.Numbers.{is_number};
 ghost use Rattle.node_state.specs.OfUnit.{IsOfUnit};
 ghost use Rattle.node_state.specs.Views.{NodeInvariant, arrival_of, arrivals_of, node_of, number_by, slot_at, tail_of};
 ghost use Rattle.node_state.specs.Changes.{IsAdded, IsChanged, serves_for_call};
+ghost use Rattle.node_state.specs.Choices.{place_called};
+ghost use Rattle.node_state.specs.Served.{IsServed};
 
 use crate::state::NodeParts;
 use code_semantics::Unit;
 use mailbox::Message;
 use node_heap::HeapFull;
-use object_interp::{enter, go_on, pick, resume_with, to_step};
-use run_types::{Error, Serves, Value};
+use object_interp::{answer_names, enter, go_on, pick, resume_with, to_step};
+use run_types::{Error, List, NameId, Serves, Value};
 
 /// Who receives the value of a method that is started for this message.
 fn serves(message: &Message) -> Serves
@@ -138,43 +139,61 @@ impl NodeParts {
         number
     }
 
-    /// Removes the message at index `place` of a slot, starts its method through alternative `alt`, and returns the
-    /// message. Requires that the alternative answers the message, and a free frame.
-    pub fn serve(&mut self, unit: &Unit, slot: u32, alt: u32, place: usize) -> Message
+    /// Removes the first message of a slot that alternative `alt` answers, starts its method through the alternative, and
+    /// returns the message. Requires a free frame. None if there is no such message.
+    pub fn serve(&mut self, unit: &Unit, slot: u32, alt: u32) -> Option<Message>
         requires whole { NodeInvariant self.old }
         requires unit { IsOfUnit unit.now (node_of self.old) }
         requires slot { slot < length self.old.heap.objects }
         requires free { get_or self.old.outstanding slot None ≡ None }
         requires choosing { IsChoosing (code_kind unit.now (object_at self.old.heap slot)) }
-        requires place { place < length (box_of self.old.mailbox slot) }
-        requires answers { (m : OneMessage) → slice_get (box_of self.old.mailbox slot) place ≡ Some m
-            → answers_to (open_names (offer_at (offers_at unit.now (object_at self.old.heap slot)) alt)) m.method ≡ true }
         requires frames { frames_used self.old.heap < self.old.heap.most_frames }
-        ensures message { slice_get (box_of self.old.mailbox slot) place ≡ Some result }
-        ensures changed { (y : CodeObject) × (code_serving unit.now (object_at self.old.heap slot) alt result.method result.args (serves_for_call result.from result.call) ≡ Some y)
-            × IsChanged unit.now self.old self.new slot
-            (record (slot_at self.old slot) {
-              state = record (slot_at self.old slot).state { object = forget y };
-              callers = number_by (serves_for_call result.from result.call) (slot_at self.old slot).callers;
-              mailbox = arrivals_of (remove (box_of self.old.mailbox slot) place);
-            }) }
+        ensures { (place : ℕ) → place_called (box_of self.old.mailbox slot) (open_names (offer_at (offers_at unit.now (object_at self.old.heap slot)) alt)) ≡ Some place
+            → IsServed unit.now self.old self.new slot alt place result }
     {
-        let message = self.mailbox.take(slot, place);
-        let serves = serves(&message);
-        if enter(
-            unit,
-            &mut self.heap,
-            slot,
-            alt,
-            message.method,
-            &message.args,
-            serves,
-        )
-        .is_ok()
-        {
-            self.refresh(unit, slot);
+        match answer_names(unit, &self.heap, slot, alt) {
+            Some(names) => self.serve_named(unit, slot, alt, names),
+            None => None,
         }
-        message
+    }
+
+    /// Does the same for the names that the alternative answers.
+    fn serve_named(
+        &mut self,
+        unit: &Unit,
+        slot: u32,
+        alt: u32,
+        names: &List<NameId>,
+    ) -> Option<Message>
+        requires whole { NodeInvariant self.old }
+        requires unit { IsOfUnit unit.now (node_of self.old) }
+        requires slot { slot < length self.old.heap.objects }
+        requires free { get_or self.old.outstanding slot None ≡ None }
+        requires choosing { IsChoosing (code_kind unit.now (object_at self.old.heap slot)) }
+        requires frames { frames_used self.old.heap < self.old.heap.most_frames }
+        requires names { open_names (offer_at (offers_at unit.now (object_at self.old.heap slot)) alt) ≡ Some names.now }
+        ensures { (place : ℕ) → place_called (box_of self.old.mailbox slot) (Some names.now) ≡ Some place → IsServed unit.now self.old self.new slot alt place result }
+    {
+        match self.mailbox.take_first(slot, names) {
+            Some(message) => {
+                let serves = serves(&message);
+                if enter(
+                    unit,
+                    &mut self.heap,
+                    slot,
+                    alt,
+                    message.method,
+                    &message.args,
+                    serves,
+                )
+                .is_ok()
+                {
+                    self.refresh(unit, slot);
+                }
+                Some(message)
+            }
+            None => None,
+        }
     }
 
     /// Makes an object in a new slot, and returns the number of the slot. `class` is the index of its class in the

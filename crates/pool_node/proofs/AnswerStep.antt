@@ -158,6 +158,14 @@ not_called : (box : List Message) (o : Option (List NameId)) → place_called bo
 not_called box None e = refl
 not_called box (Some names) e = ap (λ (z : Option ℕ). is_some z) e
 
+pub some_place : (o : Option ℕ) → is_some o ≡ true → (place : ℕ) × (o ≡ Some place)
+some_place None e = absurd (cc)
+some_place (Some place) e = (place, refl)
+
+pub is_called_since : (o : Option ℕ) → (o ≡ None → ⊥) → is_some o ≡ true
+is_called_since None ne = absurd (ne refl)
+is_called_since (Some place) ne = refl
+
 record IsCalled (box : List Message) (o : Option (List NameId)) (place : ℕ) : Type 0 where
   names : List NameId
   is : o ≡ Some names

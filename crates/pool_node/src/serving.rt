@@ -43,13 +43,12 @@ fn label_of(object: u32, message: &Message) -> Label
     }
 }
 
-/// Accepts the message at index `place` through alternative `alt`, unless there is no frame for its method.
+/// Accepts the first message that alternative `alt` answers, unless there is no frame for its method.
 fn serve_turn(
     plan: &NodePlan<'_>,
     parts: &mut NodeParts,
     slot: u32,
     alt: u32,
-    place: usize,
     room: &mut StepOutput,
 ) -> TurnOutcome
     requires set { IsSet plan.now.unit.now plan.now.placement.now plan.now.leaving parts.old }
@@ -57,7 +56,7 @@ fn serve_turn(
     requires free { get_or parts.old.outstanding slot None ≡ None }
     requires choosing { IsChoosing (code_kind plan.now.unit.now (object_at parts.old.heap slot)) }
     requires first { first_of_these (box_of parts.old.mailbox slot) 1 (offers_at plan.now.unit.now (object_at parts.old.heap slot)) ≡ Some alt }
-    requires place { place_called (box_of parts.old.mailbox slot) (open_names (offer_at (offers_at plan.now.unit.now (object_at parts.old.heap slot)) alt)) ≡ Some place }
+    requires called { is_some (place_called (box_of parts.old.mailbox slot) (open_names (offer_at (offers_at plan.now.unit.now (object_at parts.old.heap slot)) alt))) ≡ true }
     ensures { (q : ℕ) → IsTurned plan.now.unit.now plan.now.placement.now q plan.now.leaving (act_of result room.new) parts.old parts.new slot }
 {
     if parts.heap.frames() >= plan.placement.frames {
@@ -66,9 +65,13 @@ fn serve_turn(
         };
     }
     let object = name_of(parts, slot);
-    let message = parts.serve(plan.unit, slot, alt, place);
-    room.what = step(label_of(object, &message));
-    TurnOutcome::Line
+    match parts.serve(plan.unit, slot, alt) {
+        Some(message) => {
+            room.what = step(label_of(object, &message));
+            TurnOutcome::Line
+        }
+        None => TurnOutcome::Idle,
+    }
 }
 
 /// Chooses alternative `alt`, which is the first possible one.
@@ -92,10 +95,7 @@ fn choose(
         room.what = step(Label::Pick { object, alt });
         return TurnOutcome::Line;
     }
-    match parts.called_place(plan.unit, slot, alt) {
-        Some(place) => serve_turn(plan, parts, slot, alt, place, room),
-        None => TurnOutcome::Idle,
-    }
+    serve_turn(plan, parts, slot, alt, room)
 }
 
 /// Chooses the first possible alternative.
