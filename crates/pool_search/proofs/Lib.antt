@@ -17,3 +17,4 @@ pub mod ConfigurationClass
 pub mod WaiterLaws
 pub mod KnownLeads
 pub mod MovedObjects
+pub mod TrialResults

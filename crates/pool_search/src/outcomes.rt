@@ -1,10 +1,12 @@
 //! All outcomes of a program: what its runs write until they end, and how they end.
-ghost use Rattle.std.specs.Prelude.{◌≡◌, ◌<◌, ◌≤◌, ◌+◌, ◌⊎◌, ◌++◌, ◌∷◌, ℕ, List, [], Ok, length, slice_get, IfOk, IfSome, OnOk, true, false};
+ghost use Rattle.std.specs.Prelude.{◌≡◌, ◌<◌, ◌≤◌, ◌+◌, ◌⊎◌, ◌++◌, ◌∷◌, ℕ, List, [], Ok, Some, length, slice_get, IfOk, IfSome, OnOk, true, false};
 ghost use Rattle.std.specs.Global.{Global};
 ghost use Rattle.std.specs.declared.vec.Vec.{Vec};
 ghost use Rattle.run_types.specs.Tables.{Each};
 ghost use Rattle.run_types.specs.declared.types.Label.{Label};
 ghost use Rattle.pool_syntax.specs.TreeOf.{program_of};
+ghost use Rattle.pool_relation.specs.Transition.{start};
+ghost use Rattle.pool_semantics.specs.PlainOf.{configuration_of, program_tree, is_spent};
 ghost use Rattle.search_laws.specs.Tried.{with_writes};
 ghost use Rattle.pool_search.specs.Courses.{course_of};
 ghost use Rattle.pool_search.specs.Entries.{entries, lists, searched};
@@ -205,6 +207,32 @@ pub fn all_outcomes<P: Progress>(
     })
 }
 
+/// The outcome of the run of these indexes from the start, where the stepper is. Its labels become `labels`. None if the run
+/// cannot be repeated, or a label is possible at its end. An error means out of memory.
+fn outcome_after(
+    alloc: Global,
+    plain: &mut Plain<'_>,
+    way: &[u32],
+    labels: &mut Vec<Label>,
+) -> Result<Option<Outcome>, AllocError>
+    requires fresh { is_spent plain.old ≡ false }
+    requires start { start (program_tree plain.old) 0 ≡ Some (configuration_of plain.old) }
+    requires none { labels.old.items ≡ [] }
+    ensures { IfOk result (λ r. IfSome r (λ o. IsRunOf (program_tree plain.old) o labels.new.items)) }
+{
+    if !retrace(alloc, plain, Keeps::Writes, way, labels)? {
+        return Ok(None);
+    }
+    if plain.moving().is_some() {
+        return Ok(None);
+    }
+    let items = written_by(alloc, labels)?;
+    Ok(Some(Outcome {
+        kind: kind_of(plain),
+        items,
+    }))
+}
+
 /// The run of these indexes as a run with an outcome. None if the run cannot be repeated, or a label is possible at its
 /// end. An error means out of memory.
 fn show_run(
@@ -216,20 +244,10 @@ fn show_run(
 {
     let mut plain = Plain::make(alloc, program, 0)?;
     let mut labels = Vec::new(alloc);
-    if !retrace(alloc, &mut plain, Keeps::Writes, way, &mut labels)? {
-        return Ok(None);
+    match outcome_after(alloc, &mut plain, way, &mut labels)? {
+        Some(outcome) => Ok(Some(OutcomeRun::Shown { outcome, labels })),
+        None => Ok(None),
     }
-    if plain.moving().is_some() {
-        return Ok(None);
-    }
-    let items = written_by(alloc, &labels)?;
-    Ok(Some(OutcomeRun::Shown {
-        outcome: Outcome {
-            kind: kind_of(&plain),
-            items,
-        },
-        labels,
-    }))
 }
 
 /// A run with the outcome at this place in the list that a search found. `whole` says whether the list is complete. An

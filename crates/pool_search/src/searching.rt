@@ -1,8 +1,10 @@
 //! The breadth-first search.
-ghost use Rattle.std.specs.Prelude.{◌≡◌, ◌≤◌, ◌∷◌, ℕ, [], Ok, Some, IfOk, IfSome, length, true};
+ghost use Rattle.std.specs.Prelude.{◌≡◌, ◌<◌, ◌≤◌, ◌∷◌, ℕ, [], Ok, Some, IfOk, IfSome, length, true, false};
 ghost use Rattle.std.specs.Global.{Global};
 ghost use Rattle.std.specs.declared.vec.Vec.{Vec};
 ghost use Rattle.pool_syntax.specs.TreeOf.{program_of};
+ghost use Rattle.pool_relation.specs.Transition.{start};
+ghost use Rattle.pool_semantics.specs.PlainOf.{configuration_of, program_tree, is_spent};
 ghost use Rattle.run_types.specs.declared.types.Label.{Label};
 ghost use Rattle.search_laws.specs.Tried.{states_only};
 ghost use Rattle.pool_search.specs.Courses.{course_of};
@@ -21,6 +23,7 @@ use crate::scope::{Keeps, Scope};
 use crate::waiters::Waiters;
 use class_check::Checked;
 use pool_semantics::Plain;
+use run_types::Label;
 use std::alloc::{AllocError, Global};
 
 /// Settles the start and keeps it in this empty set. `false` if a bound is met. An error means out of memory.
@@ -46,6 +49,42 @@ pub fn begin<'a>(
     }
 }
 
+/// The objects that are dead in an entry, to which the stepper comes from the start. The labels of the run become `labels`.
+/// None if none is known to be dead. An error means out of memory.
+fn dead_after<'a>(
+    alloc: Global,
+    explored: &mut Explored<'a>,
+    waiters: &Waiters,
+    at: u32,
+    plain: &mut Plain<'a>,
+    labels: &mut Vec<Label>,
+) -> Result<Option<Vec<u32>>, AllocError>
+    requires exists { at < length (entries explored.old) }
+    requires fresh { is_spent plain.old ≡ false }
+    requires start { start (program_tree plain.old) 0 ≡ Some (configuration_of plain.old) }
+    requires none { labels.old.items ≡ [] }
+    requires program { searched explored.old ≡ program_tree plain.old }
+    requires in_order { AllInOrder (entries explored.old) }
+    ensures { IfOk result (λ r. IfSome r (λ names. (q : Query) → wants_stuck q.wanted ≡ true → IsAnswer (program_tree plain.old) q (SearchResult.Dead labels.new names))) }
+{
+    let way = way_to(alloc, &explored.origins, at)?;
+    if !retrace(alloc, plain, Keeps::States, &way, labels)? {
+        return Ok(None);
+    }
+    let Some(next) = next_after(1, labels) else {
+        return Ok(None);
+    };
+    let written = explored.kept.written(at as usize);
+    let Some(place) = explored.kept.find(plain, next, written)? else {
+        return Ok(None);
+    };
+    let names = explored.dead_at(alloc, waiters, plain, place)?;
+    if names.is_empty() {
+        return Ok(None);
+    }
+    Ok(Some(names))
+}
+
 /// The run to an entry, with the objects that are dead there. None if none is known to be dead. An error means out of
 /// memory.
 fn show_dead<'a>(
@@ -62,24 +101,12 @@ fn show_dead<'a>(
     if at as usize >= explored.kept.len() {
         return Ok(None);
     }
-    let way = way_to(alloc, &explored.origins, at)?;
     let mut plain = Plain::make(alloc, program, 0)?;
     let mut labels = Vec::new(alloc);
-    if !retrace(alloc, &mut plain, Keeps::States, &way, &mut labels)? {
-        return Ok(None);
+    match dead_after(alloc, explored, waiters, at, &mut plain, &mut labels)? {
+        Some(names) => Ok(Some(SearchResult::Dead { labels, names })),
+        None => Ok(None),
     }
-    let Some(next) = next_after(1, &labels) else {
-        return Ok(None);
-    };
-    let written = explored.kept.written(at as usize);
-    let Some(place) = explored.kept.find(&plain, next, written)? else {
-        return Ok(None);
-    };
-    let names = explored.dead_at(alloc, waiters, &plain, place)?;
-    if names.is_empty() {
-        return Ok(None);
-    }
-    Ok(Some(SearchResult::Dead { labels, names }))
 }
 
 /// Whether the query looks for stuck configurations.

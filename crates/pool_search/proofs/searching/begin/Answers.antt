@@ -1,4 +1,4 @@
-use Rattle.std.proofs.Common.{◌≡◌, [], List, sym, ap, ◌∙◌, subst, Some, get_or}
+use Rattle.std.proofs.Common.{◌≡◌, refl, [], List, sym, ap, ◌∙◌, subst, Some, get_or}
 use Rattle.std.specs.Prelude.{IfSome}
 use Rattle.run_types.specs.declared.types.Item.{Item}
 use Rattle.pool_syntax.specs.Terms.{ProgramTree}
@@ -10,6 +10,7 @@ use Rattle.pool_search.specs.Progress.{Entries, Grows, IsReachedWith, IsSearched
 use Rattle.pool_search.specs.Trials.{SettlesAt}
 use Rattle.pool_search.proofs.EntryExpansion.{begun_at}
 use Rattle.pool_search.proofs.RunExtension.{reached_start}
+use Rattle.pool_search.proofs.TrialResults.{not_true}
 use Rattle.pool_search.proofs.searching.begin.Goals as goal
 
 pub settle_and_keep-requires-clause-program : goal.settle_and_keep-requires-clause-program
@@ -40,3 +41,18 @@ returns-in-Ok-Some-clause-begun c = λ _.
     subst (λ (q : ProgramTree). IsSearchedTo q k (λ _. Unit {0}) es 0) (sym c.settle_and_keep.ensures.program)
     (begun_at p k most es first place starts (subst (λ (w : List Item). SettlesAt p k es 1 w first place) nothing leads)
     (subst (λ (xs : Entries). Grows p k most xs es) c.requires.none grows))
+
+pub returns-in-Ok-Some-clause-program : goal.returns-in-Ok-Some-clause-program
+returns-in-Ok-Some-clause-program c = c.settle_and_keep.ensures.program
+
+pub returns-in-Ok-None-clause-program : goal.returns-in-Ok-None-clause-program
+returns-in-Ok-None-clause-program c = c.settle_and_keep.ensures.program
+
+pub returns-in-Ok-None-clause-begun : goal.returns-in-Ok-None-clause-begun
+returns-in-Ok-None-clause-begun c = λ told. absurd (not_true _ refl told)
+
+pub returns-in-Ok-None-clause-within : goal.returns-in-Ok-None-clause-within
+returns-in-Ok-None-clause-within c = λ told. absurd (not_true _ refl told)
+
+pub returns-in_err-plain-clause-program : goal.returns-in_err-plain-clause-program
+returns-in_err-plain-clause-program c = refl

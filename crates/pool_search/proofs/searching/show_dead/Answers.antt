@@ -1,60 +1,26 @@
-use Rattle.std.proofs.Common.{◌≡◌, ◌<◌, ◌==◌, zero, suc, ℕ, sym, subst, ap, ◌∙◌, [], Some, true, false, vec_len, get_or, slice_get, arith}
+use Rattle.std.proofs.Common.{◌≡◌, ◌∙◌, Some, true, sym, subst}
 use Rattle.std.specs.Prelude.{IfSome}
-use Rattle.run_types.specs.Tables.{Each}
 use Rattle.pool_syntax.specs.Terms.{ProgramTree}
-use Rattle.pool_syntax.specs.TreeOf.{program_of}
-use Rattle.pool_relation.specs.Transition.{run, start}
+use Rattle.pool_relation.specs.Transition.{start}
 use Rattle.pool_semantics.specs.PlainOf.{configuration_of, program_tree}
-use Rattle.reachability.specs.Search.{in_order}
-use Rattle.search_laws.specs.Dead.{IsDead}
-use Rattle.search_laws.specs.ClosedBeside.{after_all, IsReachedInOrder}
-use Rattle.pool_search.specs.VisitedConfigurations.{entry, kept_list, kept_program}
-use Rattle.pool_search.specs.Entries.{entries, lists}
-use Rattle.pool_search.specs.Progress.{Entries}
+use Rattle.pool_search.specs.SearchAnswers.{IsAnswer}
+use Rattle.pool_search.specs.SearchTargets.{wants_stuck}
+use Rattle.pool_search.specs.declared.queries.Query.{Query}
+use Rattle.pool_search.specs.declared.queries.SearchResult.TheVariants as R
 use Rattle.pool_search.proofs.searching.show_dead.Goals as goal
 
-not_empty : (n : ℕ) → (n == 0) ≡ false → 0 < n
-not_empty zero h = absurd (let z : true ≡ false = h in cc)
-not_empty (suc n) h = omega arith
+pub dead_after-requires-clause-start : goal.dead_after-requires-clause-start
+dead_after-requires-clause-start c =
+    subst (λ (t : ProgramTree). start t 0 ≡ Some (configuration_of c.in_ok-plain.plain)) (sym c.in_ok-plain.ensures.program) c.in_ok-plain.ensures.start
 
-pub returns : goal.returns
-returns c = λ q asked.
-    let x = c.args.explored.now in
-    let p = program_of c.args.program.now.program.now in
-    let first = configuration_of c.in_ok-plain.plain in
-    let last = configuration_of c.retrace.new.plain in
-    let labels = c.retrace.new.shown.items in
-    let next = c.in-Some.next in
-    let place = c.in-Some-2.place in
-    let k = c.find.new.self in
-    let names = c.in_ok-names.names in
-    let starts : start p 0 ≡ Some first = c.in_ok-plain.ensures.start in
-    let nothing : run (program_tree c.in_ok-plain.plain) first c.new-labels.result.items ≡ Some first = ap (run (program_tree c.in_ok-plain.plain) first) c.new-labels.ensures.items in
-    let led : run p first labels ≡ Some last = subst (λ (t : ProgramTree). run t first labels ≡ Some last) c.in_ok-plain.ensures.program (c.in_ok-retrace.ensures.leads first nothing) in
-    let e = entry next (get_or (lists x) c.written-written.result []) last in
-    let found : slice_get (entries x) place ≡ Some e =
-    subst (λ o. IfSome o (λ i. slice_get (entries x) i ≡ Some (entry next (get_or (lists x) c.written-written.result []) last))) c.in-Some-2.is c.in_ok-place.ensures.found
+pub dead_after-requires-clause-program : goal.dead_after-requires-clause-program
+dead_after-requires-clause-program c = c.requires.program ∙ sym c.in_ok-plain.ensures.program
+
+pub returns-in-Some : goal.returns-in-Some
+returns-in-Some c = λ q asked.
+    let names = c.in-Some.names in
+    let ls = c.dead_after.new.labels in
+    let told : (q : Query) → wants_stuck q.wanted ≡ true → IsAnswer (program_tree c.in_ok-plain.plain) q (R.Dead ls names) =
+    subst (λ r. IfSome r (λ ns. (q : Query) → wants_stuck q.wanted ≡ true → IsAnswer (program_tree c.in_ok-plain.plain) q (R.Dead ls ns))) c.in-Some.is c.in_ok-names.ensures
     in
-    let there : slice_get (kept_list k) place ≡ Some e = subst (λ (es : Entries). slice_get es place ≡ Some e) (sym c.find.ensures.list) found in
-    let same : kept_program k ≡ p = c.find.ensures.program ∙ c.requires.program in
-    let reached : IsReachedInOrder p next last =
-    record {
-      first = first;
-      labels = labels;
-      starts = starts;
-      orders = ap (in_order 1) (sym c.deref-3.ensures.value) ∙ c.in-Some.ensures.order;
-      leads = led;
-      next = ap (after_all 1) (sym c.deref-3.ensures.value) ∙ c.in-Some.ensures.next;
-    }
-    in
-    let dead : Each (IsDead (kept_program k) last) names.items = c.in_ok-names.ensures e there (subst (λ (t : ProgramTree). IsReachedInOrder t next last) (sym same) reached) in
-    let some : 0 < vec_len names = not_empty (vec_len names) (sym c.is_empty.ensures ∙ c.if-is_empty.false) in (
-      record {
-        first = first;
-        last = last;
-        starts = starts;
-        leads = led;
-        holds = record { asked = asked; some = subst (λ (n : ℕ). 0 < n) names.ok.0 some; dead = subst (λ (t : ProgramTree). Each (IsDead t last) names.items) same dead };
-      },
-      reached.orders,
-    )
+    subst (λ (t : ProgramTree). IsAnswer t q (R.Dead ls names)) c.in_ok-plain.ensures.program (told q asked)

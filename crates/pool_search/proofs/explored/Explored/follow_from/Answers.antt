@@ -1,4 +1,4 @@
-use Rattle.std.proofs.Common.{◌≡◌, ◌<◌, ◌++◌, List, [], get_or, subst, sym, ap, ◌∙◌, Some, None, Err, length}
+use Rattle.std.proofs.Common.{◌≡◌, refl, ◌<◌, ◌++◌, List, [], get_or, subst, sym, ap, ◌∙◌, Some, None, Err, length}
 use Rattle.std.specs.Prelude.{IfSome}
 use Rattle.run_types.specs.declared.types.Item.{Item}
 use Rattle.pool_syntax.specs.Terms.{ProgramTree}
@@ -12,9 +12,10 @@ use Rattle.pool_search.specs.Courses.{course_of}
 use Rattle.pool_search.specs.Entries.{entries, lists, searched}
 use Rattle.pool_search.specs.Progress.{Entries, Grows, IsReachedWith}
 use Rattle.pool_search.specs.Trials.{SettlesAt}
-use Rattle.pool_search.proofs.ListGrowth.{each_at}
+use Rattle.pool_search.proofs.ListGrowth.{as_it_is, each_at}
 use Rattle.pool_search.proofs.RunExtension.{reached_more}
 use Rattle.pool_search.proofs.EntryExpansion.{entry_there, items_after, led_at}
+use Rattle.pool_search.proofs.TrialResults.{failed_not, led_tried, over_led, over_tried, tried_led, untrue}
 use Rattle.pool_search.proofs.explored.Explored.follow_from.Goals as goal
 
 pub returns-in-Err-NotPossible-clause-impossible : goal.returns-in-Err-NotPossible-clause-impossible
@@ -98,3 +99,90 @@ returns-in-Ok-Some-settle_and_keep-clause-led c = λ i told e there.
     (c.in-Some.ensures ∙ ap (λ n. after_label n label) name) kept
     in
     subst (LeadsAt p k es e.next e.items e.configuration label) is led
+
+pub returns-in-Err-NotPossible-clause-program : goal.returns-in-Err-NotPossible-clause-program
+returns-in-Err-NotPossible-clause-program c = refl
+
+pub returns-in-Err-NotPossible-clause-led : goal.returns-in-Err-NotPossible-clause-led
+returns-in-Err-NotPossible-clause-led c = λ i told e there. absurd (tried_led _ refl told)
+
+pub returns-in-Err-NotPossible-clause-grows : goal.returns-in-Err-NotPossible-clause-grows
+returns-in-Err-NotPossible-clause-grows c = λ _. as_it_is (searched c.args.self.now) (course_of c.args.scope.keeps) c.args.scope.most (entries c.args.self.now)
+
+pub returns-in-Err-Memory-clause-program : goal.returns-in-Err-Memory-clause-program
+returns-in-Err-Memory-clause-program c = refl
+
+pub returns-in-Err-Memory-clause-grows : goal.returns-in-Err-Memory-clause-grows
+returns-in-Err-Memory-clause-grows c = tt
+
+pub returns-in-Err-Memory-clause-impossible : goal.returns-in-Err-Memory-clause-impossible
+returns-in-Err-Memory-clause-impossible c = λ told e there. absurd (failed_not _ refl told)
+
+pub returns-in-Err-Memory-clause-led : goal.returns-in-Err-Memory-clause-led
+returns-in-Err-Memory-clause-led c = λ i told e there. absurd (failed_not _ refl told)
+
+pub returns-in_default-clause-program : goal.returns-in_default-clause-program
+returns-in_default-clause-program c = refl
+
+pub returns-in_default-clause-grows : goal.returns-in_default-clause-grows
+returns-in_default-clause-grows c = λ tried. absurd (untrue tried)
+
+pub returns-in_default-clause-impossible : goal.returns-in_default-clause-impossible
+returns-in_default-clause-impossible c = λ told e there. absurd (over_tried _ refl told)
+
+pub returns-in_default-clause-led : goal.returns-in_default-clause-led
+returns-in_default-clause-led c = λ i told e there. absurd (over_led _ refl told)
+
+pub returns-in-Ok-None-clause-program : goal.returns-in-Ok-None-clause-program
+returns-in-Ok-None-clause-program c = c.written_after.ensures.program
+
+pub returns-in-Ok-None-clause-grows : goal.returns-in-Ok-None-clause-grows
+returns-in-Ok-None-clause-grows c = λ tried. absurd (untrue tried)
+
+pub returns-in-Ok-None-clause-impossible : goal.returns-in-Ok-None-clause-impossible
+returns-in-Ok-None-clause-impossible c = λ told e there. absurd (over_tried _ refl told)
+
+pub returns-in-Ok-None-clause-led : goal.returns-in-Ok-None-clause-led
+returns-in-Ok-None-clause-led c = λ i told e there. absurd (over_led _ refl told)
+
+pub returns-in-Err-clause-program : goal.returns-in-Err-clause-program
+returns-in-Err-clause-program c = c.written_after.ensures.program
+
+pub returns-in-Err-clause-grows : goal.returns-in-Err-clause-grows
+returns-in-Err-clause-grows c = tt
+
+pub returns-in-Err-clause-impossible : goal.returns-in-Err-clause-impossible
+returns-in-Err-clause-impossible c = λ told e there. absurd (failed_not _ refl told)
+
+pub returns-in-Err-clause-led : goal.returns-in-Err-clause-led
+returns-in-Err-clause-led c = λ i told e there. absurd (failed_not _ refl told)
+
+pub returns-in-Ok-None-settle_and_keep-clause-program : goal.returns-in-Ok-None-settle_and_keep-clause-program
+returns-in-Ok-None-settle_and_keep-clause-program c = c.settle_and_keep.ensures.program ∙ c.written_after.ensures.program
+
+pub returns-in-Ok-None-settle_and_keep-clause-grows : goal.returns-in-Ok-None-settle_and_keep-clause-grows
+returns-in-Ok-None-settle_and_keep-clause-grows c = λ tried. absurd (untrue tried)
+
+pub returns-in-Ok-None-settle_and_keep-clause-impossible : goal.returns-in-Ok-None-settle_and_keep-clause-impossible
+returns-in-Ok-None-settle_and_keep-clause-impossible c = λ told e there. absurd (over_tried _ refl told)
+
+pub returns-in-Ok-None-settle_and_keep-clause-led : goal.returns-in-Ok-None-settle_and_keep-clause-led
+returns-in-Ok-None-settle_and_keep-clause-led c = λ i told e there. absurd (over_led _ refl told)
+
+pub returns-in-Err-settle_and_keep-clause-program : goal.returns-in-Err-settle_and_keep-clause-program
+returns-in-Err-settle_and_keep-clause-program c = c.settle_and_keep.ensures.program ∙ c.written_after.ensures.program
+
+pub returns-in-Err-settle_and_keep-clause-grows : goal.returns-in-Err-settle_and_keep-clause-grows
+returns-in-Err-settle_and_keep-clause-grows c = tt
+
+pub returns-in-Err-settle_and_keep-clause-impossible : goal.returns-in-Err-settle_and_keep-clause-impossible
+returns-in-Err-settle_and_keep-clause-impossible c = λ told e there. absurd (failed_not _ refl told)
+
+pub returns-in-Err-settle_and_keep-clause-led : goal.returns-in-Err-settle_and_keep-clause-led
+returns-in-Err-settle_and_keep-clause-led c = λ i told e there. absurd (failed_not _ refl told)
+
+pub returns-in-Ok-Some-settle_and_keep-clause-program : goal.returns-in-Ok-Some-settle_and_keep-clause-program
+returns-in-Ok-Some-settle_and_keep-clause-program c = c.settle_and_keep.ensures.program ∙ c.written_after.ensures.program
+
+pub returns-in-Ok-Some-settle_and_keep-clause-impossible : goal.returns-in-Ok-Some-settle_and_keep-clause-impossible
+returns-in-Ok-Some-settle_and_keep-clause-impossible c = λ told e there. absurd (led_tried _ refl told)

@@ -1,13 +1,18 @@
-use Rattle.std.proofs.Common.{◌≡◌, refl, ap, sym, subst, ◌∙◌, ℕ, Ok, Some, slice_get}
+use Rattle.std.proofs.Common.{◌≡◌, ◌∷◌, ◌++◌, [], List, refl, ap, sym, subst, ◌∙◌, ℕ, Ok, Some, slice_get}
 use Rattle.std.specs.Prelude.{IfSome, Result}
 use Rattle.std.proofs.lemmas.Result.{err_from_is_err_and}
 use Rattle.pool_search.specs.declared.going_on.Lead.{Lead}
 use Rattle.pool_semantics.specs.PlainOf.{configuration_of}
 use Rattle.pool_search.specs.declared.going_on.Lead.TheVariants as L
-use Rattle.pool_search.specs.Entries.{entries}
+use Rattle.pool_search.specs.Entries.{entries, searched}
+use Rattle.pool_search.specs.Leads.{IsEdge}
 use Rattle.pool_search.specs.Progress.{Entries}
 use Rattle.pool_search.specs.VisitedConfigurations.{entry}
+use Rattle.run_types.specs.declared.types.Label.{Label}
+use Rattle.pool_syntax.specs.Terms.{ProgramTree}
+use Rattle.pool_relation.specs.Transition.{transition}
 use Rattle.pool_search.proofs.FailedResults.{not_ok}
+use Rattle.pool_search.proofs.TrialResults.{failed_not}
 use Rattle.pool_search.proofs.explored.Explored.lead.Goals as goal
 
 nowhere_to : {E : Type 0} {to : ℕ} (r : Result Lead E) → r ≡ Ok L.Nowhere → r ≡ Ok (L.To to) → ⊥
@@ -156,3 +161,24 @@ returns-in-None-clause-nowhere c = λ told. absurd (unknown_nowhere _ refl told)
 
 pub returns-in-None-clause-edge : goal.returns-in-None-clause-edge
 returns-in-None-clause-edge c = λ to told. absurd (unknown_to _ refl told)
+
+pub returns-in-Err-Memory-clause-nowhere : goal.returns-in-Err-Memory-clause-nowhere
+returns-in-Err-Memory-clause-nowhere c = λ told. absurd (failed_not _ refl told)
+
+pub returns-in-Err-Memory-clause-edge : goal.returns-in-Err-Memory-clause-edge
+returns-in-Err-Memory-clause-edge c = λ to told. absurd (failed_not _ refl told)
+
+pub returns-in-Some-clause-edge : goal.returns-in-Some-clause-edge
+returns-in-Some-clause-edge c = λ to told.
+    let p = searched c.args.self.now in
+    let es = entries c.args.self.now in
+    let n = c.args.next in
+    let l = c.args.label.now in
+    let from = configuration_of c.args.plain.now in
+    let made = c.settle_and_find.new.made.items in
+    let place = c.in-Some.to in
+    let is : place ≡ to = cc in
+    let step : transition p from l ≡ Some (configuration_of c.apply.new.self) = subst (λ (q : ProgramTree). transition q from l ≡ Some (configuration_of c.apply.new.self)) c.requires.program c.in-Ok.ensures.made in
+    let first : c.push.new.self.items ≡ l ∷ [] = c.in_ok-push.ensures.items ∙ ap (λ (ls : List Label). ls ++ l ∷ []) c.clear.ensures.items in
+    let edge : IsEdge p es n from l made place = subst (λ o. IfSome o (IsEdge p es n from l made)) c.in-Some.is (c.in_ok-to.ensures.edge from step first) in
+    subst (IsEdge p es n from l made) is edge

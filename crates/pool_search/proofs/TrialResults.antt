@@ -1,0 +1,28 @@
+-- No result is two of the results of a trial.
+use Rattle.std.proofs.Common.{◌≡◌, ℕ, Bool, true, false, Result, Ok, Err, Option, Some, None}
+use Rattle.pool_search.specs.declared.choices.Trial.{Trial}
+use Rattle.pool_search.specs.declared.choices.Trial.TheVariants as T
+
+pub untrue : false ≡ true → ⊥
+untrue h = cc
+
+pub tried_led : {E : Type 0} {i : ℕ} (r : Result Trial E) → r ≡ Ok T.Tried → r ≡ Ok (T.Led i) → ⊥
+tried_led r p q = cc
+
+pub led_tried : {E : Type 0} {i : ℕ} (r : Result Trial E) → r ≡ Ok (T.Led i) → r ≡ Ok T.Tried → ⊥
+led_tried r p q = cc
+
+pub over_tried : {E : Type 0} (r : Result Trial E) → r ≡ Ok T.Over → r ≡ Ok T.Tried → ⊥
+over_tried r p q = cc
+
+pub over_led : {E : Type 0} {i : ℕ} (r : Result Trial E) → r ≡ Ok T.Over → r ≡ Ok (T.Led i) → ⊥
+over_led r p q = cc
+
+pub failed_not : {T E : Type 0} {e : E} {v : T} (r : Result T E) → r ≡ Err e → r ≡ Ok v → ⊥
+failed_not r p q = cc
+
+pub not_true : {E : Type 0} (r : Result Bool E) → r ≡ Ok false → r ≡ Ok true → ⊥
+not_true r p q = cc
+
+pub some_not : {X E : Type 0} {x : X} (r : Result (Option X) E) → r ≡ Ok (Some x) → r ≡ Ok None → ⊥
+some_not r p q = cc
