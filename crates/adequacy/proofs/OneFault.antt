@@ -16,8 +16,8 @@ use Rattle.pool_syntax.specs.Tokens.{HasTokens, IsFirstFault, toks}
 use Rattle.pool_syntax.specs.Typing as T
 use Rattle.pool_syntax.specs.Typing.{faults}
 use Rattle.pool_lexer.proofs.Laws.{same_tokens, same_first_fault, not_both}
-use Rattle.pool_parser.specs.declared.fault.SyntaxFault.{SyntaxFault}
-use Rattle.pool_parser.specs.declared.fault.SyntaxFault.TheVariants as Syntax
+use Rattle.expression_parser.specs.declared.fault.SyntaxFault.{SyntaxFault}
+use Rattle.expression_parser.specs.declared.fault.SyntaxFault.TheVariants as Syntax
 use Rattle.class_check.specs.Least.{IsBelow, IsLeastFault}
 use Rattle.class_check.specs.PairOf.{pair_of}
 use Rattle.class_check.specs.declared.fault.ClassFault.{ClassFault}

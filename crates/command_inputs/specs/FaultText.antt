@@ -3,8 +3,8 @@ use Rattle.std.specs.Prelude.{[], ◌++◌, codes, decimal}
 use Rattle.text_scan.specs.Text.{Text}
 use Rattle.pool_syntax.specs.declared.token.LexFault.{LexFault}
 use Rattle.pool_syntax.specs.declared.token.LexFault.TheVariants as Lex
-use Rattle.pool_parser.specs.declared.fault.SyntaxFault.{SyntaxFault}
-use Rattle.pool_parser.specs.declared.fault.SyntaxFault.TheVariants as Syntax
+use Rattle.expression_parser.specs.declared.fault.SyntaxFault.{SyntaxFault}
+use Rattle.expression_parser.specs.declared.fault.SyntaxFault.TheVariants as Syntax
 use Rattle.class_check.specs.declared.fault.ClassFault.{ClassFault}
 use Rattle.class_check.specs.declared.fault.ClassFault.TheVariants as Class
 use Rattle.placement_reader.specs.declared.fault.PlacementFault.{PlacementFault}

@@ -13,8 +13,8 @@ use Rattle.pool_grammar.specs.Nesting.{IsFirstTooDeep}
 use Rattle.pool_syntax.specs.Typing.{faults}
 use Rattle.pool_grammar.specs.Programs.{HasProgram, IsShallowBelow}
 pub use Rattle.pool_grammar.specs.Programs.{IsParsed, IsTextOf, IsTypedText}
-use Rattle.pool_parser.specs.declared.fault.SyntaxFault.{SyntaxFault}
-use Rattle.pool_parser.specs.declared.fault.SyntaxFault.TheVariants as Syntax
+use Rattle.expression_parser.specs.declared.fault.SyntaxFault.{SyntaxFault}
+use Rattle.expression_parser.specs.declared.fault.SyntaxFault.TheVariants as Syntax
 use Rattle.class_check.specs.Least.{IsLeastFault}
 use Rattle.class_check.specs.PairOf.{pair_of}
 use Rattle.command_inputs.specs.declared.fault.Fault.{Fault}

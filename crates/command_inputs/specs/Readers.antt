@@ -9,8 +9,8 @@ use Rattle.pool_syntax.specs.Spelled.{is_spelled}
 use Rattle.pool_syntax.specs.TreeOf.{program_of}
 use Rattle.pool_syntax.specs.declared.token.LexFault.{LexFault}
 use Rattle.pool_syntax.specs.declared.token.LexFault.TheVariants as Lex
-use Rattle.pool_parser.specs.declared.fault.SyntaxFault.{SyntaxFault}
-use Rattle.pool_parser.specs.declared.fault.SyntaxFault.TheVariants as Syntax
+use Rattle.expression_parser.specs.declared.fault.SyntaxFault.{SyntaxFault}
+use Rattle.expression_parser.specs.declared.fault.SyntaxFault.TheVariants as Syntax
 use Rattle.command_inputs.specs.declared.fault.Input.{Input}
 use Rattle.command_inputs.specs.declared.fault.Input.TheVariants as I
 use Rattle.command_inputs.specs.declared.fault.Fault.{Fault}

@@ -10,11 +10,10 @@ use Rattle.pool_syntax.specs.Terms.{Expression, Statement, If, While, Select, St
 use Rattle.pool_grammar.specs.Rules.{Phrase, Tree, stmt, stmts, more_stmts, alt, more_alts, list, word, phrase, Rule, tree, then, either, OneAlternative}
 use Rattle.pool_grammar.specs.Grammar.{rule, expr, then_last, alt_last}
 use Rattle.pool_grammar.specs.Derives.{Derives}
-use Rattle.pool_parser.specs.Reads.{Outcome, read, refused, Reads, ReadsPhrase, begins_statement, strength}
-use Rattle.pool_parser.proofs.ClearRules.{Clear, Misses}
+use Rattle.expression_parser.specs.Reads.{Outcome, read, refused, Reads, ReadsPhrase, begins_statement, strength}
+use Rattle.expression_parser.proofs.Laws.{Clear, Misses, reads_tree, reads_first, reads_second, reads_inner, reads_refused, reads_last, put, put-id, clear_tree, clear_inner, clear_either, clear_word, clear_sign, misses_token, misses_inner, off, off_tree, clear_any, sign_read, word_read, word_missing}
+use Rattle.expression_parser.proofs.Laws.{off_sign, off_word}
 use Rattle.pool_parser.specs.Tails.{else_part, then_part}
-use Rattle.pool_parser.proofs.RuleComposition.{reads_tree, reads_first, reads_second, reads_inner, reads_refused, reads_last, put, put-id, clear_tree, clear_inner, clear_either, clear_word, clear_sign, misses_token, misses_inner, off, off_tree}
-use Rattle.pool_parser.proofs.SingleTokens.{clear_any, sign_read, word_read, word_missing, off_sign, off_word}
 use Rattle.pool_parser.proofs.Choices.{not_empty, clear_full}
 use Rattle.pool_parser.proofs.SimpleStatements.{misses_stmt, behind_if, behind_while, behind_select}
 

@@ -6,9 +6,8 @@ use Rattle.pool_grammar.specs.Rules.{Phrase, Tree, Part, phrase, SemanticValue, 
 use Rattle.pool_grammar.specs.Grammar.{rule}
 use Rattle.pool_grammar.specs.Derives.{Derives, first, second, Begins, of_first, of_second}
 use Rattle.pool_grammar.proofs.Laws.{IsTerminal}
-use Rattle.pool_parser.specs.Reads.{Outcome, read, refused, edge, Reads, Stops}
-use Rattle.pool_parser.proofs.ClearRules.{Clear, Misses}
-use Rattle.pool_parser.proofs.RuleComposition.{at_least, begins_at_least, front_of, shorter, Derives-token, Derives-inner, Derives-either, Begins-inner, Begins-either}
+use Rattle.expression_parser.specs.Reads.{Outcome, read, refused, edge, Reads, Stops}
+use Rattle.expression_parser.proofs.Laws.{Clear, Misses, at_least, begins_at_least, front_of, shorter, Derives-token, Derives-inner, Derives-either, Begins-inner, Begins-either}
 
 module _ {ts : List Tok} {p : Phrase} {i : ℕ} where
   -- what begins the rule ends no later than the outcome

@@ -13,12 +13,11 @@ use Rattle.pool_grammar.specs.Rules as r
 use Rattle.pool_grammar.specs.Rules.{Phrase, Tree, program, more_classes, class, more_vars, names, more_methods, method, params, more_params, param, more_locals, word, sign, name, end, phrase, Rule, tree, then, either, post, stmts}
 use Rattle.pool_grammar.specs.Grammar.{rule, variables, expr}
 use Rattle.pool_grammar.specs.Derives.{IsToken, Begins}
-use Rattle.pool_parser.specs.Reads.{Outcome, read, refused, Reads, ReadsPhrase, GoesOn, Stops}
-use Rattle.pool_parser.proofs.ClearRules.{Clear, Misses}
+use Rattle.expression_parser.specs.Reads.{Outcome, read, refused, Reads, ReadsPhrase, GoesOn, Stops}
+use Rattle.expression_parser.proofs.Laws.{Clear, Misses, Begins-tree, Begins-either, reads_tree, reads_token, reads_missing, reads_first, reads_second, reads_inner, reads_refused, reads_last, reads_nothing, reads_factored, put-id, clear_word, clear_sign, clear_token, misses_token, misses_either}
+use Rattle.expression_parser.proofs.Laws.{misses_inner, off, off_tree, clear_any, sign_there, sign_read, sign_missing, word_read, name_missing, off_sign, off_word}
 use Rattle.pool_parser.specs.Tails.{proper_part, result_part, body_part, declared_part}
 use Rattle.pool_parser.specs.Declarations.{ReadsDeclared}
-use Rattle.pool_parser.proofs.RuleComposition.{Begins-tree, Begins-either, reads_tree, reads_token, reads_missing, reads_first, reads_second, reads_inner, reads_refused, reads_last, reads_nothing, reads_factored, put-id, clear_word, clear_sign, clear_token, misses_token, misses_either, misses_inner, off, off_tree}
-use Rattle.pool_parser.proofs.SingleTokens.{clear_any, sign_there, sign_read, sign_missing, word_read, name_missing, off_sign, off_word}
 use Rattle.pool_parser.proofs.Bodies.{ends_statements, ends_value}
 use Rattle.pool_parser.proofs.Choices.{clear_through, misses_through}
 

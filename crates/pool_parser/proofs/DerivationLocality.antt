@@ -3,7 +3,7 @@ use Rattle.std.proofs.Common.{◌≡◌, ℕ, ◌<◌, ◌≤◌, List, slice_ge
 use Rattle.pool_syntax.specs.declared.token.Tok.{Tok}
 use Rattle.pool_grammar.specs.Rules.{Phrase, Tree, Part, word, sign, name, integer, string, end, operator, phrase, SemanticValue, Rule}
 use Rattle.pool_grammar.specs.Derives.{IsToken, Derives, nothing, token, inner, first, second, Begins, none, past_token, within, past, of_first, of_second}
-use Rattle.pool_parser.proofs.RuleComposition.{at_least, begins_at_least}
+use Rattle.expression_parser.proofs.Laws.{at_least, begins_at_least}
 
 -- two lists have the same tokens below number n
 abbrev pub AgreeBelow : List Tok → List Tok → ℕ → Type 0

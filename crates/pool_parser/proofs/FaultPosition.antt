@@ -9,9 +9,9 @@ use Rattle.pool_grammar.specs.Derives.{Begins, IsFirstUnexpected}
 use Rattle.pool_grammar.specs.Nesting.{nesting, IsFirstTooDeep}
 use Rattle.pool_grammar.specs.Programs.{HasProgram, IsShallowBelow}
 use Rattle.pool_syntax.specs.TreeOf.{program_of}
-use Rattle.pool_parser.specs.declared.fault.SyntaxFault.{SyntaxFault}
-use Rattle.pool_parser.specs.declared.fault.SyntaxFault.TheVariants.{Unexpected, TooDeep, Memory}
-use Rattle.pool_parser.proofs.RuleComposition.{begun_of, begins_within, shorter}
+use Rattle.expression_parser.specs.declared.fault.SyntaxFault.{SyntaxFault}
+use Rattle.expression_parser.specs.declared.fault.SyntaxFault.TheVariants.{Unexpected, TooDeep, Memory}
+use Rattle.expression_parser.proofs.Laws.{begun_of, begins_within, shorter}
 
 -- no more tokens begin a program than stand before the first unexpected one
 at_most : (ts : List Tok) (t n : ℕ) → IsFirstUnexpected ts t → Begins ts program (rule program) 0 n → n ≤ t

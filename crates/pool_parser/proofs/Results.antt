@@ -12,12 +12,12 @@ use Rattle.pool_grammar.specs.Grammar.{rule}
 use Rattle.pool_grammar.specs.Derives.{Begins, IsFirstUnexpected}
 use Rattle.pool_grammar.specs.Nesting.{nesting, IsFirstTooDeep}
 use Rattle.pool_syntax.specs.TreeOf.{program_of}
-use Rattle.pool_parser.specs.declared.fault.SyntaxFault.{SyntaxFault}
-use Rattle.pool_parser.specs.declared.fault.SyntaxFault.TheVariants.{Unexpected, TooDeep, Memory}
-use Rattle.pool_parser.specs.Reads.{ReadsPhrase, read, refused}
-use Rattle.pool_parser.specs.Parses.{seen}
+use Rattle.expression_parser.specs.declared.fault.SyntaxFault.{SyntaxFault}
+use Rattle.expression_parser.specs.declared.fault.SyntaxFault.TheVariants.{Unexpected, TooDeep, Memory}
+use Rattle.expression_parser.specs.Reads.{ReadsPhrase, read, refused}
+use Rattle.expression_parser.specs.Parses.{seen}
 use Rattle.pool_parser.specs.Declarations.{AnswersProgram, ParsesProgram}
-use Rattle.pool_parser.proofs.RuleComposition.{front_of, shorter, begins_within}
+use Rattle.expression_parser.proofs.Laws.{front_of, shorter, begins_within}
 use Rattle.pool_parser.proofs.DerivationLocality.{AgreeBelow, Begins-agrees}
 use Rattle.pool_parser.proofs.TokenPrefix.{toks_length, whole_front, whole_length, front_agrees, front_reaches}
 

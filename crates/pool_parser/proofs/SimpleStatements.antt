@@ -11,14 +11,11 @@ use Rattle.pool_syntax.specs.Terms.{Expression, Expressions, Variable, Statement
 use Rattle.pool_grammar.specs.Rules.{postfix, primary, expression, args, invoke, stmt, stmts, alt, more_alts, list, word, sign, name, string, phrase, Rule, tree, then, either}
 use Rattle.pool_grammar.specs.Grammar.{rule, expr, alt_last}
 use Rattle.pool_grammar.specs.Derives.{IsToken, Derives, Begins, none, past_token, within, past, of_first, of_second}
-use Rattle.pool_parser.specs.Reads.{GoesOn, Outcome, read, refused, Reads, ReadsPhrase, begins_statement}
-use Rattle.pool_parser.proofs.ClearRules.{Clear, Misses}
+use Rattle.expression_parser.specs.Reads.{GoesOn, Outcome, read, refused, Reads, ReadsPhrase, begins_statement}
+use Rattle.expression_parser.proofs.Laws.{Clear, Misses, begins_at_least, front_of, Derives-tree, Derives-inner, Begins-tree, Begins-inner, reads_tree, reads_token, reads_first, reads_second, reads_inner, reads_refused, reads_last, reads_factored, reads_regrouped, put, clear_tree, clear_sign}
+use Rattle.expression_parser.proofs.Laws.{misses_token, misses_either, misses_inner, off, invoke_postfix, invoke_begins, postfix_begins, clash, sign_read, sign_missing, word_read, name_missing, begins_primary, misses_postfix, misses_expr, variable_read, postfix_read, sends_end, not_invoke}
 use Rattle.pool_parser.specs.Tails.{sending, else_part}
-use Rattle.pool_parser.proofs.RuleComposition.{begins_at_least, front_of, Derives-tree, Derives-inner, Begins-tree, Begins-inner, reads_tree, reads_token, reads_first, reads_second, reads_inner, reads_refused, reads_last, reads_factored, reads_regrouped, put, clear_tree, clear_sign, misses_token, misses_either, misses_inner, off}
-use Rattle.pool_parser.proofs.Invocation.{invoke_postfix, invoke_begins, postfix_begins}
-use Rattle.pool_parser.proofs.SingleTokens.{clash, sign_read, sign_missing, word_read, name_missing}
 use Rattle.pool_parser.proofs.Choices.{reads_over, reads_under}
-use Rattle.pool_parser.proofs.Primaries.{begins_primary, misses_postfix, misses_expr, variable_read, postfix_read, sends_end, not_invoke}
 
 statement_covers_primary : (t : Tok) → begins_statement t ≡ false → begins_primary t ≡ false
 statement_covers_primary (tok.Int z) h = h

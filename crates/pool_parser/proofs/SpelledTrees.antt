@@ -19,7 +19,7 @@ use Rattle.text_scan.specs.Keywords.{is_name, is_string_number}
 use Rattle.pool_syntax.specs.Spelled.{is_literal, is_kind, is_outcome, are_names, are_answer_names, are_variables, is_spelled_expression, are_spelled_expressions, is_spelled_statement, are_spelled_statements, are_spelled_alternatives, are_spelled_methods, is_spelled, IsSpelledToken, AreSpelled}
 use Rattle.pool_syntax.specs.declared.tree.Program.{Program}
 use Rattle.pool_syntax.specs.TreeOf.{program_of}
-use Rattle.pool_parser.specs.declared.fault.SyntaxFault.{SyntaxFault}
+use Rattle.expression_parser.specs.declared.fault.SyntaxFault.{SyntaxFault}
 use Rattle.pool_grammar.specs.Programs.{HasProgram}
 
 both : {a b : Bool} → IsTrue a → IsTrue b → IsTrue (a && b)

@@ -7,8 +7,8 @@ use Rattle.pool_syntax.specs.Tokens.{toks}
 use Rattle.pool_syntax.specs.declared.token.Token.{Token}
 use Rattle.pool_syntax.specs.declared.token.Tok.{Tok}
 use Rattle.pool_syntax.specs.declared.token.Tok.TheVariants as tok
-use Rattle.pool_parser.specs.Nested.{IsNestedBelow}
-use Rattle.pool_parser.specs.Parses.{seen}
+use Rattle.expression_parser.specs.Nested.{IsNestedBelow}
+use Rattle.expression_parser.specs.Parses.{seen}
 use Rattle.pool_parser.proofs.DerivationLocality.{AgreeBelow}
 
 pub toks_length : (list : List Token) → length (toks list) ≡ length list

@@ -15,16 +15,11 @@ use Rattle.pool_grammar.specs.Rules.{either, post}
 use Rattle.pool_grammar.specs.Grammar.{rule, expr}
 use Rattle.pool_grammar.specs.Derives.{IsToken, Derives, nothing, token, inner, first, second, IsProgram}
 use Rattle.pool_grammar.proofs.Laws.{IsTerminal}
-use Rattle.pool_parser.specs.Reads.{GoesOn, Stops, read, refused, strength, level_number}
-use Rattle.pool_parser.proofs.ClearRules.{Clear, Misses}
+use Rattle.expression_parser.specs.Reads.{GoesOn, Stops, read, refused, strength, level_number}
+use Rattle.expression_parser.proofs.Laws.{Clear, Misses, at_least, front_of, token_one, Derives-tree, Derives-token, Derives-inner, Derives-either, clear_tree, clear_inner, clear_sign, misses_token, misses_either, misses_inner, invoke_postfix, clear_any, operator_strength, group_strength}
+use Rattle.expression_parser.proofs.Laws.{operand_above, after_operand, prefix_begins_none, misses_postfix, misses_expr, after_sum, after_primary, closes_expression, after_arg, closes_args}
 use Rattle.pool_parser.specs.Tails.{proper_part, result_part}
-use Rattle.pool_parser.proofs.RuleComposition.{at_least, front_of, token_one, Derives-tree, Derives-token, Derives-inner, Derives-either, clear_tree, clear_inner, clear_sign, misses_token, misses_either, misses_inner}
-use Rattle.pool_parser.proofs.Invocation.{invoke_postfix}
-use Rattle.pool_parser.proofs.SingleTokens.{clear_any}
 use Rattle.pool_parser.proofs.Choices.{misses_through}
-use Rattle.pool_parser.proofs.Levels.{operator_strength, group_strength, operand_above, after_operand}
-use Rattle.pool_parser.proofs.Primaries.{prefix_begins_none, misses_postfix, misses_expr, after_sum, after_primary, closes_expression}
-use Rattle.pool_parser.proofs.Arguments.{after_arg, closes_args}
 use Rattle.pool_parser.proofs.SimpleStatements.{misses_sending, misses_unbegun, behind_first, invoke_within, after_destination, assigned_rest}
 use Rattle.pool_parser.proofs.Bodies.{ends_value, ends_statements, after_these, after_guard, after_alt, ends_alt, ends_alts, after_stmt}
 use Rattle.pool_parser.proofs.DeclarationRules.{closes_params, misses_param, ends_locals, no_local, after_vars, ends_methods, ends_classes, after_body, after_value, ends_post}

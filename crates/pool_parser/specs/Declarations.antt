@@ -7,10 +7,10 @@ use Rattle.pool_syntax.specs.declared.tree.Program.{Program}
 use Rattle.pool_grammar.specs.Rules.{Phrase, program, Tree, Rule}
 use Rattle.pool_grammar.specs.Grammar.{rule}
 use Rattle.pool_syntax.specs.TreeOf.{program_of}
-use Rattle.pool_parser.specs.declared.fault.SyntaxFault.{SyntaxFault}
-use Rattle.pool_parser.specs.declared.fault.SyntaxFault.TheVariants.{Unexpected, TooDeep, Memory}
-use Rattle.pool_parser.specs.Reads.{Outcome, read, refused, Reads, ReadsPhrase}
-use Rattle.pool_parser.specs.Parses.{seen, Refuses}
+use Rattle.expression_parser.specs.declared.fault.SyntaxFault.{SyntaxFault}
+use Rattle.expression_parser.specs.declared.fault.SyntaxFault.TheVariants.{Unexpected, TooDeep, Memory}
+use Rattle.expression_parser.specs.Reads.{Outcome, read, refused, Reads, ReadsPhrase}
+use Rattle.expression_parser.specs.Parses.{seen, Refuses}
 use Rattle.pool_parser.specs.Tails.{declared_part}
 
 -- the tokens from the number i up to the number j declare variables, which follow those before; this holds for any

@@ -5,17 +5,16 @@ ghost use Rattle.pool_grammar.specs.Rules.{more_vars, more_locals, params as par
 ghost use Rattle.pool_grammar.specs.Rules.{class as class_phrase, more_classes};
 ghost use Rattle.pool_grammar.specs.Grammar.{variables};
 ghost use Rattle.pool_syntax.specs.TreeOf.{method_tree, class_tree, statements_of};
-ghost use Rattle.pool_parser.specs.declared.fault.SyntaxFault.TheVariants.{Memory};
+ghost use Rattle.expression_parser.specs.declared.fault.SyntaxFault.TheVariants.{Memory};
 ghost use Rattle.pool_parser.specs.Tails.{proper_part, result_part, body_part};
 ghost use Rattle.pool_parser.specs.Declarations.{ParsesDeclared, ParsesProgram};
-ghost use Rattle.pool_parser.specs.Parses.{seen, Parses, ParsesRule, Advances, Stays};
+ghost use Rattle.expression_parser.specs.Parses.{seen, Parses, ParsesRule, Advances, Stays};
 
-use crate::expressions::{Grouping, grouped};
-use crate::fault::SyntaxFault;
-use crate::naming::{kind, names};
-use crate::source::{Source, expect, expect_name, is_at};
 use crate::statements::statements;
-use crate::steps::{pushed, read};
+use crate::steps::read;
+use expression_parser::{
+    Grouping, Source, SyntaxFault, expect, expect_name, grouped, is_at, kind, names, pushed,
+};
 use pool_syntax::{ClassDecl, Expr, Method, Named, Program, Sign, Stmt, Tok, Token, Var};
 use run_types::{Kind, List};
 use std::alloc::Global;

@@ -4,15 +4,11 @@
 #![tactic(auto)]
 
 mod declarations;
-mod expressions;
-mod fault;
-mod naming;
 mod nesting;
 mod parser;
-mod source;
 mod statements;
 mod steps;
 pub mod theorems;
 
-pub use fault::SyntaxFault;
+pub use expression_parser::SyntaxFault;
 pub use parser::parse;

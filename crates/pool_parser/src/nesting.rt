@@ -4,10 +4,10 @@ ghost use Rattle.pool_syntax.specs.declared.token.Tok.{Tok as OneToken};
 ghost use Rattle.pool_syntax.specs.Tokens.{toks};
 ghost use Rattle.pool_grammar.specs.Programs.{IsShallowBelow};
 ghost use Rattle.pool_grammar.specs.Nesting.{role as nesting_role, IsFirstTooDeep};
-ghost use Rattle.pool_parser.specs.declared.fault.SyntaxFault.TheVariants.{Memory};
+ghost use Rattle.expression_parser.specs.declared.fault.SyntaxFault.TheVariants.{Memory};
 ghost use Rattle.pool_parser.specs.Depths.{role_of, depth_at, Counts};
 
-use crate::fault::SyntaxFault;
+use expression_parser::SyntaxFault;
 use pool_syntax::{Sign, Tok, Token};
 use std::alloc::Global;
 use text_scan::Keyword;

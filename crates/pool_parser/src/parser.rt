@@ -10,14 +10,13 @@ ghost use Rattle.pool_syntax.specs.TreeOf.{program_of};
 ghost use Rattle.pool_syntax.specs.Tokens.{toks};
 ghost use Rattle.pool_grammar.specs.Programs.{HasProgram, IsShallowBelow};
 ghost use Rattle.pool_syntax.specs.Spelled.{AreSpelled, is_spelled};
-ghost use Rattle.pool_parser.specs.declared.fault.SyntaxFault.TheVariants.{Memory};
+ghost use Rattle.expression_parser.specs.declared.fault.SyntaxFault.TheVariants.{Memory};
 ghost use Rattle.pool_parser.specs.Declarations.{ParsesProgram};
-ghost use Rattle.pool_parser.specs.Nested.{IsNestedBelow};
+ghost use Rattle.expression_parser.specs.Nested.{IsNestedBelow};
 
 use crate::declarations::program;
-use crate::fault::SyntaxFault;
 use crate::nesting::first_too_deep;
-use crate::source::Source;
+use expression_parser::{Source, SyntaxFault};
 use pool_lexer::Tokens;
 use pool_syntax::{Program, Token};
 use std::alloc::Global;

@@ -4,15 +4,15 @@ ghost use Rattle.pool_syntax.specs.declared.tree.Named.{Named as OneName};
 ghost use Rattle.pool_grammar.specs.Rules.{stmts as stmts_phrase, more_stmts, stmt as stmt_phrase, alt as alt_phrase, more_alts};
 ghost use Rattle.pool_syntax.specs.TreeOf.{alternatives_of, expression_of, statement_of, statements_of};
 ghost use Rattle.pool_parser.specs.Alternatives.{alternative_of};
-ghost use Rattle.pool_parser.specs.Reads.{begins_statement as token_begins_statement};
+ghost use Rattle.expression_parser.specs.Reads.{begins_statement as token_begins_statement};
 ghost use Rattle.pool_parser.specs.Tails.{sending as sending_rule, else_part as else_rule, then_part as then_rule};
-ghost use Rattle.pool_parser.specs.Parses.{seen, Parses, ParsesRule, Advances, Stays};
+ghost use Rattle.expression_parser.specs.Parses.{seen, Parses, ParsesRule, Advances, Stays};
 
-use crate::expressions::{Grouping, arguments, grouped, postfix};
-use crate::fault::SyntaxFault;
-use crate::naming::answer_list;
-use crate::source::{Source, expect, expect_name, is_at, peek};
-use crate::steps::{pushed, read};
+use crate::steps::read;
+use expression_parser::{
+    Grouping, Source, SyntaxFault, answer_list, arguments, expect, expect_name, grouped, is_at,
+    peek, postfix, pushed,
+};
 use pool_syntax::{Alt, Expr, Named, Sign, Stmt, Tok};
 use run_types::List;
 use std::alloc::Global;

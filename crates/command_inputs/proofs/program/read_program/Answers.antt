@@ -6,8 +6,8 @@ use Rattle.pool_grammar.specs.Rules.{program}
 use Rattle.pool_grammar.specs.Grammar.{rule}
 use Rattle.pool_grammar.specs.Derives.{Begins, IsFirstUnexpected}
 use Rattle.pool_grammar.specs.Nesting.{IsFirstTooDeep}
-use Rattle.pool_parser.specs.declared.fault.SyntaxFault.{SyntaxFault}
-use Rattle.pool_parser.specs.declared.fault.SyntaxFault.TheVariants as Syntax
+use Rattle.expression_parser.specs.declared.fault.SyntaxFault.{SyntaxFault}
+use Rattle.expression_parser.specs.declared.fault.SyntaxFault.TheVariants as Syntax
 use Rattle.command_inputs.specs.declared.fault.Fault.{Fault}
 use Rattle.command_inputs.specs.declared.fault.Fault.TheVariants as F
 use Rattle.command_inputs.specs.declared.fault.Input.{Input}

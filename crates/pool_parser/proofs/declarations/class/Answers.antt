@@ -1,5 +1,5 @@
 use Rattle.pool_syntax.specs.TreeOf.{class_tree}
-use Rattle.pool_parser.proofs.Exits.{passed_on, unexpected, relay}
+use Rattle.expression_parser.proofs.Laws.{passed_on, unexpected, relay}
 use Rattle.pool_parser.proofs.DeclarationRules.{class_missing, class_unnamed, class_vars_refused, class_methods_refused, class_read}
 use Rattle.pool_parser.proofs.declarations.class.Goals as goal
 

@@ -1,7 +1,5 @@
 use Rattle.std.proofs.Common.{refl}
-use Rattle.pool_parser.proofs.Exits.{passed_on, unexpected}
-use Rattle.pool_parser.proofs.RuleComposition.{reads_inner, reads_refused}
-use Rattle.pool_parser.proofs.SingleTokens.{word_read, word_there, word_missing}
+use Rattle.expression_parser.proofs.Laws.{passed_on, unexpected, reads_inner, reads_refused, word_read, word_there, word_missing}
 use Rattle.pool_parser.proofs.Bodies.{ends_statements}
 use Rattle.pool_parser.proofs.declarations.class_body.Goals as goal
 

@@ -1,4 +1,4 @@
-use Rattle.pool_parser.proofs.Exits.{declared_on, declared_unexpected}
+use Rattle.pool_parser.proofs.DeclarationExits.{declared_on, declared_unexpected}
 use Rattle.pool_parser.proofs.DeclarationRules.{declared_refused, colon_missing, kind_wrong, declared_read}
 use Rattle.pool_parser.proofs.declarations.declared.Goals as goal
 

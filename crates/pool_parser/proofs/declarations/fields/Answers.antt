@@ -1,5 +1,5 @@
 use Rattle.std.proofs.Common.{arith, rules}
-use Rattle.pool_parser.proofs.Exits.{declared_off}
+use Rattle.pool_parser.proofs.DeclarationExits.{declared_off}
 use Rattle.pool_parser.proofs.DeclarationRules.{vars_read, vars_refused, vars_end}
 use Rattle.pool_parser.proofs.declarations.fields.Goals as goal
 

@@ -1,5 +1,5 @@
 use Rattle.std.proofs.Common.{arith, rules}
-use Rattle.pool_parser.proofs.Exits.{passed_on}
+use Rattle.expression_parser.proofs.Laws.{passed_on}
 use Rattle.pool_parser.proofs.DeclarationRules.{next_read, next_refused, params_end}
 use Rattle.pool_parser.proofs.declarations.further_params.Goals as goal
 

@@ -1,5 +1,5 @@
 use Rattle.std.proofs.Common.{arith, rules}
-use Rattle.pool_parser.proofs.Exits.{declared_off}
+use Rattle.pool_parser.proofs.DeclarationExits.{declared_off}
 use Rattle.pool_parser.proofs.DeclarationRules.{locals_read, locals_refused, locals_end}
 use Rattle.pool_parser.proofs.declarations.locals.Goals as goal
 

@@ -1,8 +1,8 @@
 use Rattle.std.proofs.Common.{◌-◌, ◌≤◌, List, [], length}
 use Rattle.pool_syntax.specs.declared.tree.Var.{Var}
 use Rattle.pool_grammar.specs.Rules.{more_locals}
-use Rattle.pool_parser.specs.Reads.{Outcome, ReadsPhrase}
-use Rattle.pool_parser.specs.Parses.{seen}
+use Rattle.expression_parser.specs.Reads.{Outcome, ReadsPhrase}
+use Rattle.expression_parser.specs.Parses.{seen}
 use Rattle.pool_parser.proofs.declarations.locals.Given as goal
 
 -- what is read from here on is what all give

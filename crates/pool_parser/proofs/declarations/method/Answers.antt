@@ -1,6 +1,6 @@
 use Rattle.std.proofs.Common.{rules}
 use Rattle.pool_syntax.specs.TreeOf.{method_tree}
-use Rattle.pool_parser.proofs.Exits.{passed_on, unexpected, relay}
+use Rattle.expression_parser.proofs.Laws.{passed_on, unexpected, relay}
 use Rattle.pool_parser.proofs.DeclarationRules.{method_missing, method_unnamed, method_refused, result_read, proper_read}
 use Rattle.pool_parser.proofs.declarations.method.Goals as goal
 

@@ -1,5 +1,5 @@
 use Rattle.std.proofs.Common.{arith, rules}
-use Rattle.pool_parser.proofs.Exits.{passed_on}
+use Rattle.expression_parser.proofs.Laws.{passed_on}
 use Rattle.pool_parser.proofs.Lists.{map-last}
 use Rattle.pool_parser.proofs.DeclarationRules.{method_read, methods_refused, methods_end}
 use Rattle.pool_parser.proofs.declarations.methods.Goals as goal

@@ -2,8 +2,8 @@ use Rattle.std.proofs.Common.{◌-◌, ◌≤◌, List, [], map, length}
 use Rattle.pool_syntax.specs.Terms.{MethodTree}
 use Rattle.pool_grammar.specs.Rules.{more_methods}
 use Rattle.pool_syntax.specs.TreeOf.{method_tree}
-use Rattle.pool_parser.specs.Reads.{Outcome, ReadsPhrase}
-use Rattle.pool_parser.specs.Parses.{seen}
+use Rattle.expression_parser.specs.Reads.{Outcome, ReadsPhrase}
+use Rattle.expression_parser.specs.Parses.{seen}
 use Rattle.pool_parser.proofs.declarations.methods.Given as goal
 
 -- what is read from here on is what all give

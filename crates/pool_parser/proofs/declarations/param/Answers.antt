@@ -1,4 +1,4 @@
-use Rattle.pool_parser.proofs.Exits.{passed_on, unexpected}
+use Rattle.expression_parser.proofs.Laws.{passed_on, unexpected}
 use Rattle.pool_parser.proofs.DeclarationRules.{param_missing, param_colon, param_refused, param_read}
 use Rattle.pool_parser.proofs.declarations.param.Goals as goal
 

@@ -1,6 +1,5 @@
 use Rattle.std.proofs.Common.{rules}
-use Rattle.pool_parser.proofs.Exits.{passed_on, unexpected}
-use Rattle.pool_parser.proofs.SingleTokens.{sign_there, sign_missing}
+use Rattle.expression_parser.proofs.Laws.{passed_on, unexpected, sign_there, sign_missing}
 use Rattle.pool_parser.proofs.DeclarationRules.{params_missing, params_empty, params_refused, params_refused_later, params_read}
 use Rattle.pool_parser.proofs.declarations.params.Goals as goal
 

@@ -1,7 +1,7 @@
 use Rattle.std.proofs.Common.{rules}
 use Rattle.pool_syntax.specs.TreeOf.{statements_of}
-use Rattle.pool_parser.specs.Reads.{read, refused}
-use Rattle.pool_parser.proofs.Exits.{relay}
+use Rattle.expression_parser.specs.Reads.{read, refused}
+use Rattle.expression_parser.proofs.Laws.{relay}
 use Rattle.pool_parser.proofs.DeclarationRules.{no_post, post_read}
 use Rattle.pool_parser.proofs.declarations.post.Goals as goal
 

@@ -1,4 +1,4 @@
-use Rattle.pool_parser.proofs.Exits.{passed_on, unexpected}
+use Rattle.expression_parser.proofs.Laws.{passed_on, unexpected}
 use Rattle.pool_parser.proofs.DeclarationRules.{program_refused, program_refused_later, program_more, program_read}
 use Rattle.pool_parser.proofs.declarations.program.Goals as goal
 

@@ -1,6 +1,4 @@
-use Rattle.pool_parser.proofs.Exits.{passed_on, unexpected}
-use Rattle.pool_parser.proofs.RuleComposition.{reads_inner, reads_refused}
-use Rattle.pool_parser.proofs.SingleTokens.{word_read, word_there, word_missing}
+use Rattle.expression_parser.proofs.Laws.{passed_on, unexpected, reads_inner, reads_refused, word_read, word_there, word_missing}
 use Rattle.pool_parser.proofs.DeclarationRules.{ends_locals, after_body, ends_post}
 use Rattle.pool_parser.proofs.declarations.without_result.Goals as goal
 

@@ -1,5 +1,5 @@
 use Rattle.std.proofs.Common.{arith}
-use Rattle.pool_parser.proofs.ParserTokens.{seen_ended}
+use Rattle.expression_parser.proofs.Laws.{seen_ended}
 use Rattle.pool_parser.proofs.TokenPrefix.{nested_front, once_front}
 use Rattle.pool_parser.proofs.parser.program_of_front.Goals as goal
 

@@ -2,9 +2,9 @@ use Rattle.std.proofs.Common.{◌-◌, ◌≤◌, length}
 use Rattle.pool_syntax.specs.Terms.{Statements, Alternatives}
 use Rattle.pool_grammar.specs.Rules.{stmts, more_stmts, more_alts}
 use Rattle.pool_syntax.specs.TreeOf.{statements_of, alternatives_of}
-use Rattle.pool_parser.specs.Reads.{Outcome, ReadsPhrase}
-use Rattle.pool_parser.specs.Parses.{seen}
-use Rattle.pool_parser.proofs.Ranks.{left_at}
+use Rattle.expression_parser.specs.Reads.{Outcome, ReadsPhrase}
+use Rattle.expression_parser.specs.Parses.{seen}
+use Rattle.expression_parser.proofs.Laws.{left_at}
 use Rattle.pool_parser.proofs.statements.+statements.Given as goal
 
 abbrev pub decreases-conditional : goal.decreases-conditional

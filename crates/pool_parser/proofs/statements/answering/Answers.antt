@@ -1,5 +1,5 @@
-use Rattle.pool_parser.specs.Reads.{read, refused}
-use Rattle.pool_parser.proofs.Exits.{passed_on}
+use Rattle.expression_parser.specs.Reads.{read, refused}
+use Rattle.expression_parser.proofs.Laws.{passed_on}
 use Rattle.pool_parser.proofs.SimpleStatements.{answer_read}
 use Rattle.pool_parser.proofs.statements.answering.Goals as goal
 

@@ -1,7 +1,7 @@
 use Rattle.std.proofs.Common.{rules}
 use Rattle.pool_syntax.specs.TreeOf.{statement_of}
-use Rattle.pool_parser.specs.Reads.{read, refused}
-use Rattle.pool_parser.proofs.Exits.{passed_on, relay}
+use Rattle.expression_parser.specs.Reads.{read, refused}
+use Rattle.expression_parser.proofs.Laws.{passed_on, relay}
 use Rattle.pool_parser.proofs.SimpleStatements.{named_read, assign_read}
 use Rattle.pool_parser.proofs.statements.named_statement.Goals as goal
 

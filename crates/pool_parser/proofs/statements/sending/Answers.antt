@@ -1,6 +1,6 @@
 use Rattle.std.proofs.Common.{rules}
-use Rattle.pool_parser.specs.Reads.{read, refused}
-use Rattle.pool_parser.proofs.Exits.{passed_on, unexpected}
+use Rattle.expression_parser.specs.Reads.{read, refused}
+use Rattle.expression_parser.proofs.Laws.{passed_on, unexpected}
 use Rattle.pool_parser.proofs.SimpleStatements.{sending_refused, sending_alone, sending_none, sending_missing, sending_read}
 use Rattle.pool_parser.proofs.statements.sending.Goals as goal
 

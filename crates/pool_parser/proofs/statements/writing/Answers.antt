@@ -1,6 +1,6 @@
 use Rattle.std.proofs.Common.{arith, rules}
-use Rattle.pool_parser.specs.Reads.{read, refused}
-use Rattle.pool_parser.proofs.Exits.{passed_on}
+use Rattle.expression_parser.specs.Reads.{read, refused}
+use Rattle.expression_parser.proofs.Laws.{passed_on}
 use Rattle.pool_parser.proofs.SimpleStatements.{text_read, write_read}
 use Rattle.pool_parser.proofs.statements.writing.Goals as goal
 

@@ -1,4 +1,4 @@
-use Rattle.pool_parser.proofs.RuleComposition.{begun_of}
+use Rattle.expression_parser.proofs.Laws.{begun_of}
 use Rattle.pool_parser.proofs.theorems.derived_begins.Goals as goal
 
 pub returns : goal.returns

@@ -1,4 +1,4 @@
-use Rattle.pool_parser.proofs.RuleComposition.{shorter}
+use Rattle.expression_parser.proofs.Laws.{shorter}
 use Rattle.pool_parser.proofs.theorems.front_begins.Goals as goal
 
 pub returns : goal.returns

@@ -1,0 +1,13 @@
+pub mod ClearRules
+pub mod RuleComposition
+pub mod Invocation
+pub mod ParserTokens
+pub mod Exits
+pub mod Ranks
+pub mod Lists
+pub mod SingleTokens
+pub mod Levels
+pub mod Primaries
+pub mod ArgumentLists
+pub mod NameLists
+pub mod Laws
