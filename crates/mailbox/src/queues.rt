@@ -28,8 +28,7 @@ impl Model for Queues {
 }
 
 impl Queues {
-    /// Makes an empty mailbox with cells for `cells` messages, for slots below `objects`. Returns `Err` if memory runs
-    /// out.
+    /// Makes empty queues with cells for `cells` messages, for slots below `objects`. Returns `Err` if memory runs out.
     pub(crate) fn make(alloc: Global, objects: u32, cells: u32) -> Result<Queues, AllocError>
         ensures { IfOk result (λ m. m ≡ mail (replicate objects []) cells) }
     {

@@ -140,7 +140,7 @@ impl NodeParts {
     }
 
     /// Removes the first message of a slot that alternative `alt` answers, starts its method through the alternative, and
-    /// returns the message. Requires a free frame. None if there is no such message.
+    /// returns the message. Requires a free frame. Returns None, and changes nothing, if there is no such message.
     pub fn serve(&mut self, unit: &Unit, slot: u32, alt: u32) -> Option<Message>
         requires whole { NodeInvariant self.old }
         requires unit { IsOfUnit unit.now (node_of self.old) }
@@ -148,8 +148,10 @@ impl NodeParts {
         requires free { get_or self.old.outstanding slot None ≡ None }
         requires choosing { IsChoosing (code_kind unit.now (object_at self.old.heap slot)) }
         requires frames { frames_used self.old.heap < self.old.heap.most_frames }
-        ensures { (place : ℕ) → place_called (box_of self.old.mailbox slot) (open_names (offer_at (offers_at unit.now (object_at self.old.heap slot)) alt)) ≡ Some place
+        ensures served { (place : ℕ) → place_called (box_of self.old.mailbox slot) (open_names (offer_at (offers_at unit.now (object_at self.old.heap slot)) alt)) ≡ Some place
             → IsServed unit.now self.old self.new slot alt place result }
+        ensures none { place_called (box_of self.old.mailbox slot) (open_names (offer_at (offers_at unit.now (object_at self.old.heap slot)) alt)) ≡ None
+            → (result ≡ None) × (self.new ≡ self.old) }
     {
         match answer_names(unit, &self.heap, slot, alt) {
             Some(names) => self.serve_named(unit, slot, alt, names),
@@ -172,7 +174,8 @@ impl NodeParts {
         requires choosing { IsChoosing (code_kind unit.now (object_at self.old.heap slot)) }
         requires frames { frames_used self.old.heap < self.old.heap.most_frames }
         requires names { open_names (offer_at (offers_at unit.now (object_at self.old.heap slot)) alt) ≡ Some names.now }
-        ensures { (place : ℕ) → place_called (box_of self.old.mailbox slot) (Some names.now) ≡ Some place → IsServed unit.now self.old self.new slot alt place result }
+        ensures served { (place : ℕ) → place_called (box_of self.old.mailbox slot) (Some names.now) ≡ Some place → IsServed unit.now self.old self.new slot alt place result }
+        ensures none { place_called (box_of self.old.mailbox slot) (Some names.now) ≡ None → (result ≡ None) × (self.new ≡ self.old) }
     {
         match self.mailbox.take_first(slot, names) {
             Some(message) => {

@@ -20,7 +20,7 @@ returns-then-frames-plan c = λ q.
 pub returns-in-Some : goal.returns-in-Some
 returns-in-Some c = λ q.
     let u = c.args.plan.now.unit.now in let called = some_place (place_called (box_of c.args.parts.now.mailbox c.args.slot) (open_names (offer_at (offers_at u (object_at c.args.parts.now.heap c.args.slot)) c.args.alt))) c.requires.called in
-    let s = c.serve.ensures called.0 called.1 in let same : c.in-Some.message ≡ s.0 = same_some (sym c.in-Some.is ∙ s.1) in
+    let s = c.serve.ensures.served called.0 called.1 in let same : c.in-Some.message ≡ s.0 = same_some (sym c.in-Some.is ∙ s.1) in
     serve_made c.args.plan.now.unit.now c.args.plan.now.placement.now c.args.plan.now.leaving c.args.parts.now c.requires.set c.args.slot c.requires.slot c.args.alt c.requires.choosing c.requires.first called.0 called.1 q c.serve.new.self c.step-room.result s.0 s.3.0 s.2 s.3.1 s.3.2
     (c.step-room.ensures
     ∙ ap (λ (k : Label). W.Step k 1)
@@ -29,4 +29,4 @@ returns-in-Some c = λ q.
 pub returns-in-None : goal.returns-in-None
 returns-in-None c = λ q.
     let u = c.args.plan.now.unit.now in let called = some_place (place_called (box_of c.args.parts.now.mailbox c.args.slot) (open_names (offer_at (offers_at u (object_at c.args.parts.now.heap c.args.slot)) c.args.alt))) c.requires.called in
-    absurd (let s = (c.serve.ensures called.0 called.1).1 in let is = c.in-None.is in cc)
+    absurd (let s = (c.serve.ensures.served called.0 called.1).1 in let is = c.in-None.is in cc)

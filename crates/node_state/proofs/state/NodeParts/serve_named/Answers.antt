@@ -24,8 +24,8 @@ enter-requires-clause-answers c =
     ap (λ (ns : Option (List NameId)). answers_to ns c.in-Some.message.method) c.requires.names
     ∙ taken_named c.args.names.now c.args.self.now.mailbox c.take_first.new.self c.args.slot c.in-Some.message c.in-Some.ensures
 
-pub returns-after-is_ok : goal.returns-after-is_ok
-returns-after-is_ok c = λ place called.
+pub returns-after-is_ok-clause-served : goal.returns-after-is_ok-clause-served
+returns-after-is_ok-clause-served c = λ place called.
     let u = c.args.unit.now in let p = c.args.self.now in let i = c.args.slot in let m = c.in-Some.message in
     let t = taken_at c.args.names.now p.mailbox c.take_first.new.self i (Some m) place c.in-Some.ensures called in
     elim c.if-is_ok.branch [
