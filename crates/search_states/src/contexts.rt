@@ -64,68 +64,66 @@ fn same_place(place: &ExpressionContext<'_>, other: &ExpressionContext<'_>) -> b
     ensures different { EqualPlace place.now other.now → result ≡ true }
 {
     match (place, other) {
-        (ExpressionContext::Prefix { op, pos }, ExpressionContext::Prefix { op: o, pos: p }) => {
-            same_operator(*op, *o) && *pos == *p
+        (&ExpressionContext::Prefix { op, pos }, &ExpressionContext::Prefix { op: o, pos: p }) => {
+            same_operator(op, o) && pos == p
         }
         (
-            ExpressionContext::Left { op, right, pos },
-            ExpressionContext::Left {
+            &ExpressionContext::Left { op, right, pos },
+            &ExpressionContext::Left {
                 op: o,
                 right: r,
                 pos: p,
             },
-        ) => { same_operator(*op, *o) && *pos == *p && same_expression(right, r) }
+        ) => { same_operator(op, o) && pos == p && same_expression(right, r) }
         (
-            ExpressionContext::Right { op, left, pos },
-            ExpressionContext::Right {
+            &ExpressionContext::Right { op, left, pos },
+            &ExpressionContext::Right {
                 op: o,
                 left: l,
                 pos: p,
             },
-        ) => { same_operator(*op, *o) && *pos == *p && same_operand(*left, *l) }
+        ) => { same_operator(op, o) && pos == p && same_operand(left, l) }
         (
-            ExpressionContext::Destination { method, args, pos },
-            ExpressionContext::Destination {
+            &ExpressionContext::Destination { method, args, pos },
+            &ExpressionContext::Destination {
                 method: m,
                 args: a,
                 pos: p,
             },
-        ) => { method.0 == m.0 && *pos == *p && same_expressions(args, a) }
+        ) => { method.0 == m.0 && pos == p && same_expressions(args, a) }
         (
-            ExpressionContext::CallArgument {
+            &ExpressionContext::CallArgument {
                 method,
-                done,
+                ref done,
                 rest,
                 pos,
             },
-            ExpressionContext::CallArgument {
+            &ExpressionContext::CallArgument {
                 method: m,
-                done: d,
+                done: ref d,
                 rest: r,
                 pos: p,
             },
-        ) => {
-            method.0 == m.0 && *pos == *p && same_operands(done, d) && same_expressions(rest, r)
-        }
+        ) => { method.0 == m.0 && pos == p && same_operands(done, d) && same_expressions(rest, r) }
         (
-            ExpressionContext::SendArgument {
+            &ExpressionContext::SendArgument {
                 to,
                 method,
-                done,
+                ref done,
                 rest,
                 pos,
             },
-            ExpressionContext::SendArgument {
+            &ExpressionContext::SendArgument {
                 to: t,
                 method: m,
-                done: d,
+                done: ref d,
                 rest: r,
                 pos: p,
             },
         ) => {
             method.0 == m.0
-                && *pos == *p
-                && same_operand(*to, *t)
+                && pos == p
+                && same_operand(to, t)
                 && same_operands(done, d)
                 && same_expressions(rest, r)
         }
@@ -153,45 +151,45 @@ pub fn same_slot(slot: &StatementContext<'_>, other: &StatementContext<'_>) -> b
     ensures different { EqualSlot slot.now other.now → result ≡ true }
 {
     match (slot, other) {
-        (StatementContext::Assign { target }, StatementContext::Assign { target: t }) => same_named(
-            *target, *t,
-        ),
-        (StatementContext::Write, StatementContext::Write) => true,
-        (StatementContext::Do, StatementContext::Do) => true,
+        (&StatementContext::Assign { target }, &StatementContext::Assign { target: t }) => {
+            same_named(target, t)
+        }
+        (&StatementContext::Write, &StatementContext::Write) => true,
+        (&StatementContext::Do, &StatementContext::Do) => true,
         (
-            StatementContext::Destination { method, args },
-            StatementContext::Destination { method: m, args: a },
-        ) => { same_named(*method, *m) && same_expressions(args, a) }
-        (StatementContext::If { yes, no }, StatementContext::If { yes: y, no: n }) => {
+            &StatementContext::Destination { method, args },
+            &StatementContext::Destination { method: m, args: a },
+        ) => { same_named(method, m) && same_expressions(args, a) }
+        (&StatementContext::If { yes, no }, &StatementContext::If { yes: y, no: n }) => {
             same_statements(yes, y) && same_statements(no, n)
         }
-        (StatementContext::Loop { cond, body }, StatementContext::Loop { cond: c, body: b }) => {
+        (&StatementContext::Loop { cond, body }, &StatementContext::Loop { cond: c, body: b }) => {
             same_expression(cond, c) && same_statements(body, b)
         }
-        (StatementContext::Value, StatementContext::Value) => true,
+        (&StatementContext::Value, &StatementContext::Value) => true,
         (
-            StatementContext::Argument {
+            &StatementContext::Argument {
                 to,
                 method,
-                done,
+                ref done,
                 rest,
             },
-            StatementContext::Argument {
+            &StatementContext::Argument {
                 to: t,
                 method: m,
-                done: d,
+                done: ref d,
                 rest: r,
             },
         ) => {
-            same_named(*method, *m)
-                && same_operand(*to, *t)
+            same_named(method, m)
+                && same_operand(to, t)
                 && same_operands(done, d)
                 && same_expressions(rest, r)
         }
         (
-            StatementContext::Guard { done, at, rest },
-            StatementContext::Guard {
-                done: d,
+            &StatementContext::Guard { ref done, at, rest },
+            &StatementContext::Guard {
+                done: ref d,
                 at: a,
                 rest: r,
             },
@@ -210,69 +208,68 @@ pub fn same_ready(redex: &Ready, other: &Ready) -> bool
     ensures different { EqualReady redex.now other.now → result ≡ true }
 {
     match (redex, other) {
-        (Ready::Me { pos }, Ready::Me { pos: p }) => *pos == *p,
-        (Ready::Variable { name, pos }, Ready::Variable { name: n, pos: p }) => {
-            name.0 == n.0 && *pos == *p
+        (&Ready::Me { pos }, &Ready::Me { pos: p }) => pos == p,
+        (&Ready::Variable { name, pos }, &Ready::Variable { name: n, pos: p }) => {
+            name.0 == n.0 && pos == p
         }
-        (Ready::Create { class, pos }, Ready::Create { class: c, pos: p }) => {
-            class.0 == c.0 && *pos == *p
+        (&Ready::Create { class, pos }, &Ready::Create { class: c, pos: p }) => {
+            class.0 == c.0 && pos == p
         }
         (
-            Ready::Prefix { op, arg, pos },
-            Ready::Prefix {
+            &Ready::Prefix { op, arg, pos },
+            &Ready::Prefix {
                 op: o,
                 arg: a,
                 pos: p,
             },
-        ) => { same_operator(*op, *o) && *pos == *p && same_operand(*arg, *a) }
+        ) => { same_operator(op, o) && pos == p && same_operand(arg, a) }
         (
-            Ready::Infix {
+            &Ready::Infix {
                 op,
                 left,
                 right,
                 pos,
             },
-            Ready::Infix {
+            &Ready::Infix {
                 op: o,
                 left: l,
                 right: r,
                 pos: p,
             },
-        ) => {
-            same_operator(*op, *o)
-                && *pos == *p
-                && same_operand(*left, *l)
-                && same_operand(*right, *r)
-        }
+        ) => { same_operator(op, o) && pos == p && same_operand(left, l) && same_operand(right, r) }
         (
-            Ready::Call { method, args, pos },
-            Ready::Call {
-                method: m,
-                args: a,
-                pos: p,
-            },
-        ) => { method.0 == m.0 && *pos == *p && same_operands(args, a) }
-        (
-            Ready::Send {
-                to,
+            &Ready::Call {
                 method,
-                args,
+                ref args,
                 pos,
             },
-            Ready::Send {
-                to: t,
+            &Ready::Call {
                 method: m,
-                args: a,
+                args: ref a,
                 pos: p,
             },
-        ) => { method.0 == m.0 && *pos == *p && same_operand(*to, *t) && same_operands(args, a) }
+        ) => { method.0 == m.0 && pos == p && same_operands(args, a) }
         (
-            Ready::Wait { receiver, method },
-            Ready::Wait {
+            &Ready::Send {
+                to,
+                method,
+                ref args,
+                pos,
+            },
+            &Ready::Send {
+                to: t,
+                method: m,
+                args: ref a,
+                pos: p,
+            },
+        ) => { method.0 == m.0 && pos == p && same_operand(to, t) && same_operands(args, a) }
+        (
+            &Ready::Wait { receiver, method },
+            &Ready::Wait {
                 receiver: r,
                 method: m,
             },
-        ) => { *receiver == *r && method.0 == m.0 }
+        ) => { receiver == r && method.0 == m.0 }
         _ => false,
     }
 }
@@ -283,42 +280,48 @@ pub fn same_task(redex: &Task<'_>, other: &Task<'_>) -> bool
 {
     match (redex, other) {
         (
-            Task::Assign { target, value },
-            Task::Assign {
+            &Task::Assign { target, value },
+            &Task::Assign {
                 target: t,
                 value: v,
             },
-        ) => { same_named(*target, *t) && same_operand(*value, *v) }
-        (Task::Write { value }, Task::Write { value: v }) => same_operand(*value, *v),
-        (Task::WriteText { text }, Task::WriteText { text: t }) => text.0 == t.0,
-        (Task::Do { value }, Task::Do { value: v }) => same_operand(*value, *v),
+        ) => { same_named(target, t) && same_operand(value, v) }
+        (&Task::Write { value }, &Task::Write { value: v }) => same_operand(value, v),
+        (&Task::WriteText { text }, &Task::WriteText { text: t }) => text.0 == t.0,
+        (&Task::Do { value }, &Task::Do { value: v }) => same_operand(value, v),
         (
-            Task::Async { to, method, args },
-            Task::Async {
+            &Task::Async {
+                to,
+                method,
+                ref args,
+            },
+            &Task::Async {
                 to: t,
                 method: m,
-                args: a,
+                args: ref a,
             },
-        ) => { same_named(*method, *m) && same_operand(*to, *t) && same_operands(args, a) }
-        (Task::Answer { names }, Task::Answer { names: n }) => same_names(names, n),
-        (Task::Select { guards }, Task::Select { guards: g }) => { same_guards(guards, g) }
+        ) => { same_named(method, m) && same_operand(to, t) && same_operands(args, a) }
+        (&Task::Answer { names }, &Task::Answer { names: n }) => same_names(names, n),
+        (&Task::Select { ref guards }, &Task::Select { guards: ref g }) => {
+            same_guards(guards, g)
+        }
         (
-            Task::If { cond, yes, no },
-            Task::If {
+            &Task::If { cond, yes, no },
+            &Task::If {
                 cond: c,
                 yes: y,
                 no: n,
             },
-        ) => { same_operand(*cond, *c) && same_statements(yes, y) && same_statements(no, n) }
+        ) => { same_operand(cond, c) && same_statements(yes, y) && same_statements(no, n) }
         (
-            Task::Loop { value, cond, body },
-            Task::Loop {
+            &Task::Loop { value, cond, body },
+            &Task::Loop {
                 value: v,
                 cond: c,
                 body: b,
             },
-        ) => { same_operand(*value, *v) && same_expression(cond, c) && same_statements(body, b) }
-        (Task::While { cond, body }, Task::While { cond: c, body: b }) => {
+        ) => { same_operand(value, v) && same_expression(cond, c) && same_statements(body, b) }
+        (&Task::While { cond, body }, &Task::While { cond: c, body: b }) => {
             same_expression(cond, c) && same_statements(body, b)
         }
         _ => false,

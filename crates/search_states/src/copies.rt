@@ -75,7 +75,10 @@ fn copied_places<'a>(
 {
     let mut copied = Vec::new(alloc);
     for place in places {
-        copied.push(copied_place(alloc, place)?)?;
+        let Ok(one) = copied_place(alloc, place) else {
+            return Err(AllocError);
+        };
+        copied.push(one)?;
     }
     Ok(copied)
 }
@@ -219,10 +222,19 @@ fn copied_next<'a>(alloc: Global, next: &Focus<'a>) -> Result<Focus<'a>, AllocEr
             slot,
             rest,
         } => {
-            let redex = copied_ready(alloc, redex)?;
-            let places = copied_places(alloc, places.as_slice())?;
-            let slot = copied_slot(alloc, slot)?;
-            let rest = copied_rest(alloc, rest.as_slice())?;
+            let Ok(rest) = copied_rest(alloc, rest.as_slice()) else {
+                return Err(AllocError);
+            };
+            let Ok(places) = copied_places(alloc, places.as_slice()) else {
+                return Err(AllocError);
+            };
+            let Ok(redex) = copied_ready(alloc, redex) else {
+                return Err(AllocError);
+            };
+            let Ok(slot) = copied_slot(alloc, slot) else {
+                drop(redex);
+                return Err(AllocError);
+            };
             Ok(Focus::Expression {
                 redex,
                 places,
@@ -231,8 +243,12 @@ fn copied_next<'a>(alloc: Global, next: &Focus<'a>) -> Result<Focus<'a>, AllocEr
             })
         }
         Focus::Statement { task, rest } => {
-            let task = copied_task(alloc, task)?;
-            let rest = copied_rest(alloc, rest.as_slice())?;
+            let Ok(rest) = copied_rest(alloc, rest.as_slice()) else {
+                return Err(AllocError);
+            };
+            let Ok(task) = copied_task(alloc, task) else {
+                return Err(AllocError);
+            };
             Ok(Focus::Statement { task, rest })
         }
         Focus::Value { value } => Ok(Focus::Value { value: *value }),
@@ -249,13 +265,21 @@ fn copied_outer<'a>(
 {
     match outer {
         SuspendedCall::Expression { places, slot, rest } => {
-            let places = copied_places(alloc, places.as_slice())?;
-            let slot = copied_slot(alloc, slot)?;
-            let rest = copied_rest(alloc, rest.as_slice())?;
+            let Ok(rest) = copied_rest(alloc, rest.as_slice()) else {
+                return Err(AllocError);
+            };
+            let Ok(places) = copied_places(alloc, places.as_slice()) else {
+                return Err(AllocError);
+            };
+            let Ok(slot) = copied_slot(alloc, slot) else {
+                return Err(AllocError);
+            };
             Ok(SuspendedCall::Expression { places, slot, rest })
         }
         SuspendedCall::Statement { caller, rest } => {
-            let rest = copied_rest(alloc, rest.as_slice())?;
+            let Ok(rest) = copied_rest(alloc, rest.as_slice()) else {
+                return Err(AllocError);
+            };
             Ok(SuspendedCall::Statement {
                 caller: *caller,
                 rest,
@@ -267,8 +291,12 @@ fn copied_outer<'a>(
 fn copied_call<'a>(alloc: Global, call: &Activation<'a>) -> Result<Activation<'a>, AllocError>
     ensures { IfOk result (λ a. AlikeCall a call.now) }
 {
-    let outer = copied_outer(alloc, &call.outer)?;
-    let temps = Vec::from_slice(alloc, call.temps.as_slice())?;
+    let Ok(temps) = Vec::from_slice(alloc, call.temps.as_slice()) else {
+        return Err(AllocError);
+    };
+    let Ok(outer) = copied_outer(alloc, &call.outer) else {
+        return Err(AllocError);
+    };
     Ok(Activation {
         outer,
         method: call.method,
@@ -285,7 +313,10 @@ fn copied_calls<'a>(
 {
     let mut copied = Vec::new(alloc);
     for call in calls {
-        copied.push(copied_call(alloc, call)?)?;
+        let Ok(one) = copied_call(alloc, call) else {
+            return Err(AllocError);
+        };
+        copied.push(one)?;
     }
     Ok(copied)
 }
@@ -293,8 +324,12 @@ fn copied_calls<'a>(
 fn copied_work<'a>(alloc: Global, work: &Continuation<'a>) -> Result<Continuation<'a>, AllocError>
     ensures { IfOk result (λ w. term_of w ≡ term_of work.now) }
 {
-    let calls = copied_calls(alloc, work.calls.as_slice())?;
-    let next = copied_next(alloc, &work.next)?;
+    let Ok(calls) = copied_calls(alloc, work.calls.as_slice()) else {
+        return Err(AllocError);
+    };
+    let Ok(next) = copied_next(alloc, &work.next) else {
+        return Err(AllocError);
+    };
     Ok(Continuation { calls, next })
 }
 
@@ -302,8 +337,12 @@ fn copied_work<'a>(alloc: Global, work: &Continuation<'a>) -> Result<Continuatio
 pub fn copy<'a>(alloc: Global, thing: &ObjectState<'a>) -> Result<ObjectState<'a>, AllocError>
     ensures { IfOk result (λ t. thing_object t ≡ thing_object thing.now) }
 {
-    let vars = Vec::from_slice(alloc, thing.vars.as_slice())?;
-    let work = copied_work(alloc, &thing.work)?;
+    let Ok(vars) = Vec::from_slice(alloc, thing.vars.as_slice()) else {
+        return Err(AllocError);
+    };
+    let Ok(work) = copied_work(alloc, &thing.work) else {
+        return Err(AllocError);
+    };
     Ok(ObjectState {
         class: thing.class,
         vars,

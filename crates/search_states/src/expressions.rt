@@ -20,63 +20,67 @@ pub fn same_expression(left: &Expr, right: &Expr) -> bool
     ensures different { expression_of left.now ≡ expression_of right.now → result ≡ true }
 {
     match (left, right) {
-        (Expr::Int { value, pos }, Expr::Int { value: v, pos: p }) => *value == *v && *pos == *p,
-        (Expr::Bool { value, pos }, Expr::Bool { value: v, pos: p }) => *value == *v && *pos == *p,
-        (Expr::Nil { pos }, Expr::Nil { pos: p }) => *pos == *p,
-        (Expr::Me { pos }, Expr::Me { pos: p }) => *pos == *p,
-        (Expr::Var { name, pos }, Expr::Var { name: n, pos: p }) => name.0 == n.0 && *pos == *p,
-        (Expr::New { class, pos }, Expr::New { class: c, pos: p }) => class.0 == c.0 && *pos == *p,
+        (&Expr::Int { value, pos }, &Expr::Int { value: v, pos: p }) => value == v && pos == p,
+        (&Expr::Bool { value, pos }, &Expr::Bool { value: v, pos: p }) => value == v && pos == p,
+        (&Expr::Nil { pos }, &Expr::Nil { pos: p }) => pos == p,
+        (&Expr::Me { pos }, &Expr::Me { pos: p }) => pos == p,
+        (&Expr::Var { name, pos }, &Expr::Var { name: n, pos: p }) => name.0 == n.0 && pos == p,
+        (&Expr::New { class, pos }, &Expr::New { class: c, pos: p }) => class.0 == c.0 && pos == p,
         (
-            Expr::Unary { op, arg, pos },
-            Expr::Unary {
+            &Expr::Unary { op, ref arg, pos },
+            &Expr::Unary {
                 op: o,
-                arg: a,
+                arg: ref a,
                 pos: p,
             },
-        ) => { same_operator(*op, *o) && *pos == *p && same_expression(arg, a) }
+        ) => { same_operator(op, o) && pos == p && same_expression(arg, a) }
         (
-            Expr::Binary {
+            &Expr::Binary {
                 op,
-                left,
-                right,
+                ref left,
+                ref right,
                 pos,
             },
-            Expr::Binary {
+            &Expr::Binary {
                 op: o,
-                left: l,
-                right: r,
+                left: ref l,
+                right: ref r,
                 pos: p,
             },
         ) => {
-            same_operator(*op, *o)
-                && *pos == *p
+            same_operator(op, o)
+                && pos == p
                 && same_expression(left, l)
                 && same_expression(right, r)
         }
         (
-            Expr::Call { method, args, pos },
-            Expr::Call {
-                method: m,
-                args: a,
-                pos: p,
-            },
-        ) => { method.0 == m.0 && *pos == *p && same_expressions(args.items(), a.items()) }
-        (
-            Expr::Send {
-                to,
+            &Expr::Call {
                 method,
-                args,
+                ref args,
                 pos,
             },
-            Expr::Send {
-                to: t,
+            &Expr::Call {
                 method: m,
-                args: a,
+                args: ref a,
+                pos: p,
+            },
+        ) => { method.0 == m.0 && pos == p && same_expressions(args.items(), a.items()) }
+        (
+            &Expr::Send {
+                ref to,
+                method,
+                ref args,
+                pos,
+            },
+            &Expr::Send {
+                to: ref t,
+                method: m,
+                args: ref a,
                 pos: p,
             },
         ) => {
             method.0 == m.0
-                && *pos == *p
+                && pos == p
                 && same_expression(to, t)
                 && same_expressions(args.items(), a.items())
         }

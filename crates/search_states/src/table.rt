@@ -10,6 +10,20 @@ use std::alloc::{AllocError, Global};
 use std::collections::HashMap;
 use stepper_objects::object_state::ObjectState;
 
+/// Adds a number to those of states with this hash. No proof depends on it.
+fn add_number(
+    alloc: Global,
+    numbers: &mut HashMap<u64, Vec<u32>>,
+    state_hash: u64,
+    number: u32,
+) -> Result<(), AllocError> {
+    numbers
+        .entry(state_hash)?
+        .or_insert(Vec::new(alloc))
+        .push(number)?;
+    Ok(())
+}
+
 /// A table of fewer than 2^32 object states, numbered from 0. Contracts see it as the list of its objects.
 /// It finds a state by its hash.
 #[derive(Drop)]
@@ -71,13 +85,11 @@ impl<'a> StateTable<'a> {
             return Ok(None);
         }
         let number = count as u32;
-        let copied = copy(self.alloc, thing)?;
+        let Ok(copied) = copy(self.alloc, thing) else {
+            return Err(AllocError);
+        };
         self.things.push(copied)?;
-        let numbers = self
-            .numbers
-            .entry(state_hash)?
-            .or_insert(Vec::new(self.alloc));
-        numbers.push(number)?;
+        add_number(self.alloc, &mut self.numbers, state_hash, number)?;
         Ok(Some(number))
     }
 

@@ -8,8 +8,8 @@ pub loop-call-preserved : goal.loop-call-preserved
 loop-call-preserved c = λ z.
     let i = c.loop-call.call-index in
     ap (λ l. layers (l ++ drop (i + 1) c.args.calls.now) z) c.in_ok-push.ensures.items
-    ∙ copied_more (λ l. layers l z) wrapped (λ h b. h b) (λ a l. refl) c.args.calls.now c.loop-call.copied.items i c.call-item.result c.in_ok-copied_call.field-0 (omega arith)
-    c.call-item.is (everywhere c.in_ok-copied_call.ensures) (c.loop-call.invariant z)
+    ∙ copied_more (λ l. layers l z) wrapped (λ h b. h b) (λ a l. refl) c.args.calls.now c.loop-call.copied.items i c.call-item.result c.in-Ok.one (omega arith)
+    c.call-item.is (everywhere c.in-Ok.ensures) (c.loop-call.invariant z)
 
 pub returns : goal.returns
 returns c = λ z.
