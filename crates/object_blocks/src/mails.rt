@@ -1,16 +1,19 @@
 //! The line of the messages of a pair.
 ghost use Rattle.std.specs.Prelude.{◌≡◌, ◌++◌, OnOk, map};
+ghost use Rattle.std.specs.BTreeMap.{values};
 ghost use Rattle.pool_relation.specs.Configuration.{messages_of};
-ghost use Rattle.pool_semantics.specs.Mails.{message_of, queued};
+ghost use Rattle.message_queue.specs.Mails.{message_of};
+ghost use Rattle.pool_semantics.specs.Mails.{queued};
 ghost use Rattle.pool_semantics.specs.Plains.{configuration};
 ghost use Rattle.object_blocks.specs.Acting.{message_text};
 ghost use Rattle.term_text.specs.StateText.{mail_line, mail_text};
 
-use pool_semantics::{Mail, State};
+use message_queue::{Mail, MessageQueue};
+use pool_semantics::State;
 use record_writer::{push_args, push_name, push_object, push_word};
 use run_types::Names;
 use std::alloc::AllocError;
-use std::collections::VecDeque;
+use std::collections::{BTreeMap, VecDeque};
 
 /// Appends a message.
 fn push_message(text: &mut Vec<u8>, names: &Names, mail: &Mail) -> Result<(), AllocError>
@@ -21,14 +24,37 @@ fn push_message(text: &mut Vec<u8>, names: &Names, mail: &Mail) -> Result<(), Al
     push_args(text, &mail.args)
 }
 
-/// Appends the messages of a queue.
-fn push_queue(text: &mut Vec<u8>, names: &Names, queue: &VecDeque<Mail>) -> Result<(), AllocError>
-    ensures { OnOk result (text.new.items ≡ text.old.items ++ mail_text names.now (map message_of queue.now.items)) }
+/// Appends these messages.
+fn push_early(text: &mut Vec<u8>, names: &Names, mails: &VecDeque<Mail>) -> Result<(), AllocError>
+    ensures { OnOk result (text.new.items ≡ text.old.items ++ mail_text names.now (map message_of mails.now.items)) }
 {
-    for at in 0..queue.len() {
-        push_message(text, names, &queue[at])?;
+    for at in 0..mails.len() {
+        push_message(text, names, &mails[at])?;
     }
     Ok(())
+}
+
+/// The same of messages by their stamps.
+fn push_later(
+    text: &mut Vec<u8>,
+    names: &Names,
+    mails: &BTreeMap<u64, Mail>,
+) -> Result<(), AllocError>
+    ensures { OnOk result (text.new.items ≡ text.old.items ++ mail_text names.now (map message_of (values mails.now))) }
+{
+    for mail in mails.values() {
+        push_message(text, names, mail)?;
+    }
+    Ok(())
+}
+
+/// Appends the messages of a queue.
+fn push_queue(text: &mut Vec<u8>, names: &Names, queue: &MessageQueue) -> Result<(), AllocError>
+    ensures { OnOk result (text.new.items ≡ text.old.items ++ mail_text names.now (map message_of queue.now)) }
+{
+    let (early, later) = queue.parts();
+    push_early(text, names, early)?;
+    push_later(text, names, later)
 }
 
 /// Appends the messages of a sender to a receiver.
@@ -53,7 +79,7 @@ pub fn push_queue_line(
     names: &Names,
     sender: u32,
     receiver: u32,
-    queue: &VecDeque<Mail>,
+    queue: &MessageQueue,
 ) -> Result<(), AllocError>
     ensures { OnOk result (text.new.items ≡ text.old.items ++ mail_line names.now sender receiver (queued queue.now)) }
 {

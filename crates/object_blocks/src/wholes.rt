@@ -8,11 +8,12 @@ ghost use Rattle.term_text.specs.StateText.{blocks, configuration_text, mails};
 
 use crate::blocks::push_thing;
 use crate::mails::push_queue_line;
-use pool_semantics::{Mail, State};
+use message_queue::MessageQueue;
+use pool_semantics::State;
 use pool_syntax::Program;
 use run_types::Names;
 use std::alloc::AllocError;
-use std::collections::{BTreeMap, VecDeque};
+use std::collections::BTreeMap;
 use stepper_objects::object_state::ObjectState;
 
 /// Appends the lines of all objects, by rising names.
@@ -34,7 +35,7 @@ fn push_blocks<'a>(
 fn push_mails(
     text: &mut Vec<u8>,
     names: &Names,
-    messages: &BTreeMap<(u32, u32), VecDeque<Mail>>,
+    messages: &BTreeMap<(u32, u32), MessageQueue>,
 ) -> Result<(), AllocError>
     ensures { OnOk result (text.new.items ≡ text.old.items ++ mails names.now (posts messages.now.entries)) }
 {

@@ -17,7 +17,7 @@ use Rattle.pool_relation.specs.Action.{Object, Action, action, method_of}
 use Rattle.pool_relation.specs.Configuration.{Configuration, object_of, put_object, messages_of, put_messages}
 use Rattle.pool_relation.specs.Transition.{transition, without_fault, posts, names_method, answered, Offer, select_offer, offer, first_message, without_first, done, serving}
 use Rattle.object_moves.specs.Effects.{effect_mail}
-use Rattle.object_moves.specs.Waiting.{first_of}
+use Rattle.message_queue.specs.Mails.{first_of}
 use Rattle.object_moves.proofs.OptionalSteps.{assoc, after_test, alike, alike_for, none_then, none_after, none_after_for, none_tested}
 
 -- the offer of an alternative

@@ -1,47 +1,42 @@
 -- The first message of a queue, and queues that are missing.
-use Rattle.std.proofs.Common.{◌≡◌, ◌≢◌, refl, sym, ap, ◌∙◌, ◌<◌, ◌≤◌, ◌==◌, ℕ, zero, suc, List, [], ◌∷◌, length, drop, drop_of_length-le, map, Option, Some, None, is_some, false, slice_index_or, if◌then◌else◌, arith}
-use Rattle.std.specs.List.{remove}
+use Rattle.std.proofs.Common.{◌≡◌, ◌≢◌, refl, sym, ap, ◌∙◌, ◌==◌, ℕ, List, [], ◌∷◌, map, slice_get, Option, Some, None, is_some, true, false, Bor, arith}
+use Rattle.std.specs.Option.{option_map}
 use Rattle.run_types.specs.Message.{Message}
-use Rattle.run_types.proofs.Laws.{differ, equals}
-use Rattle.pool_semantics.specs.declared.plain.mail.Mail.{Mail}
-use Rattle.pool_semantics.specs.Mails.{message_of}
-use Rattle.object_moves.specs.Known.{parcel_message}
-use Rattle.object_moves.specs.Waiting.{first_of}
-use Rattle.object_moves.specs.declared.known.Parcel.{Parcel}
+use Rattle.run_types.proofs.Laws.{same_some}
+use Rattle.message_queue.specs.declared.Mail.{Mail}
+use Rattle.message_queue.specs.Mails.{message_of, first_of, without_of}
+use Rattle.object_moves.specs.Waiting.{is_next}
 
 pub is_missing : {X : Type 0} (r : Option X) → is_some r ≡ false → r ≡ None
 is_missing None h = refl
 is_missing (Some x) h = absurd (grind (arith, h))
 
-pub not_zero : (n : ℕ) → (n == 0) ≡ false → 0 < n
-not_zero n h = grind (arith, h)
-
--- the first message for a method, from a place on
-pub first_past : (m : ℕ) (xs : List Mail) (i : ℕ) (x : Mail) → i < length xs → x ≡ slice_index_or xs i x → x.method.0 ≢ m → first_of m (map message_of (drop (suc i) xs)) ≡ first_of m (map message_of (drop i xs))
-first_past m [] i x l at other = absurd (grind (arith, l))
-first_past m (y ∷ ys) zero x l at other = ap (λ t. if t then Some (message_of y) else first_of m (map message_of ys)) (sym (differ y.method.0 m (λ e. other (ap (λ (z : Mail). z.method.0) at ∙ e))))
-first_past m (y ∷ ys) (suc i) x l at other = first_past m ys i x (omega (arith, l)) at other
-
-pub first_here : (m : ℕ) (xs : List Mail) (i : ℕ) (x : Mail) → i < length xs → x ≡ slice_index_or xs i x → x.method.0 ≡ m → (d : Mail) → first_of m (map message_of (drop i xs)) ≡ Some (message_of (slice_index_or xs i d))
-first_here m [] i x l at this d = absurd (grind (arith, l))
-first_here m (y ∷ ys) zero x l at this d =
-    ap (λ t. if t then Some (message_of y) else first_of m (map message_of ys)) (ap (λ n. n == m) (sym (ap (λ (z : Mail). z.method.0) at) ∙ this) ∙ equals m)
-first_here m (y ∷ ys) (suc i) x l at this d = first_here m ys i x (omega (arith, l)) at this d
-
-pub none_left : (m : ℕ) (xs : List Mail) (i : ℕ) → length xs ≤ i → first_of m (map message_of (drop i xs)) ≡ None
-none_left m xs i l = ap (λ ys. first_of m (map message_of ys)) (drop_of_length-le xs l)
-
 pub not_the_first : (m : ℕ) (ms : List Message) (x : Message) → first_of m ms ≡ None → first_of m ms ≢ Some x
 not_the_first m ms x h e = let i : None ≡ Some x = sym h ∙ e in absurd (grind (arith, i))
 
--- the first of these messages is this one
-pub is_at_head : (ms : List Mail) (i : ℕ) (m : Mail) (a : Parcel) → i ≡ 0 → i < length ms → m ≡ slice_index_or ms i m → message_of m ≡ parcel_message a
-    → (rest : List Message) × (map message_of ms ≡ parcel_message a ∷ rest)
-is_at_head [] i m a z l at is = absurd (grind (arith, l))
-is_at_head (x ∷ ms) i m a z l at is =
-    (map message_of ms, ap (λ h. h ∷ map message_of ms) (ap message_of (sym (at ∙ ap (λ k. slice_index_or (x ∷ ms) k m) z)) ∙ is))
+-- the first message for a method, if the first of all is for it
+pub head_is : (a : ℕ) (ms : List Message) (m : Message) → is_next a ms ≡ true → first_of a ms ≡ Some m → (rest : List Message) × (ms ≡ m ∷ rest) × (without_of a ms ≡ rest)
+head_is a [] m h e = absurd (grind (arith, h))
+head_is a (x ∷ ms) m h e = let same : x ≡ m = same_some (rw h at e) in (ms, ap (λ y. y ∷ ms) same, rw h refl)
 
--- the messages without it
-pub without_head : (ms : List Mail) (m : Message) (rest : List Message) → map message_of ms ≡ m ∷ rest → map message_of (remove ms 0) ≡ rest
-without_head [] m rest e = absurd (grind (arith, e))
-without_head (x ∷ ms) m rest e = cc
+-- what a queue lends as the first message for a method
+pub lent_none : (f : Option Message) (r : Option (Bor Mail)) → option_map (λ m. message_of m.now) r ≡ f → r ≡ None → f ≡ None
+lent_none f r h e = sym h ∙ ap (option_map (λ m. message_of m.now)) e
+
+pub lent_some : (f : Option Message) (r : Option (Bor Mail)) (x : Bor Mail) → option_map (λ m. message_of m.now) r ≡ f → r ≡ Some x → f ≡ Some (message_of x.now)
+lent_some f r x h e = sym h ∙ ap (option_map (λ m. message_of m.now)) e
+
+-- what it lends as the first of all
+pub next_some : (a : ℕ) (q : List Mail) (r : Option (Bor Mail)) (x : Bor Mail) → option_map (λ m. m.now) r ≡ slice_get q 0 → r ≡ Some x → (x.now.method.0 == a) ≡ is_next a (map message_of q)
+next_some a q r x h e = by q (sym h ∙ ap (option_map (λ m. m.now)) e)
+  where
+    by : (ms : List Mail) → slice_get ms 0 ≡ Some x.now → (x.now.method.0 == a) ≡ is_next a (map message_of ms)
+    by [] i = absurd (grind (arith, i))
+    by (y ∷ ms) i = let same : y ≡ x.now = same_some i in ap (λ (z : Mail). z.method.0 == a) (sym same)
+
+pub next_none : (a : ℕ) (q : List Mail) (r : Option (Bor Mail)) → option_map (λ m. m.now) r ≡ slice_get q 0 → r ≡ None → false ≡ is_next a (map message_of q)
+next_none a q r h e = by q (sym h ∙ ap (option_map (λ m. m.now)) e)
+  where
+    by : (ms : List Mail) → slice_get ms 0 ≡ None → false ≡ is_next a (map message_of ms)
+    by [] i = refl
+    by (y ∷ ms) i = absurd (grind (arith, i))

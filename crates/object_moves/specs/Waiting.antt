@@ -1,15 +1,16 @@
 -- How the messages that wait change where one is sent or taken.
-use Rattle.std.specs.Prelude.{◌≡◌, ◌≢◌, ◌<◌, ◌==◌, ℕ, List, [], ◌∷◌, ◌++◌, Option, Some, None, Bool, true, false, if◌then◌else◌}
+use Rattle.std.specs.Prelude.{◌≡◌, ◌≢◌, ◌<◌, ◌==◌, ℕ, List, [], ◌∷◌, ◌++◌, Some, Bool, true, false}
 use Rattle.std.specs.FinMap.{put}
 use Rattle.run_types.specs.Message.{Message}
+use Rattle.message_queue.specs.Mails.{first_of}
 use Rattle.run_types.specs.Tables.{Pair, pair_cmp, list_at, put_list}
 use Rattle.object_moves.specs.Known.{parcel_message}
 use Rattle.object_moves.specs.declared.known.Parcel.{Parcel}
 
--- the first message for this method
-abbrev pub first_of : ℕ → List Message → Option Message
-first_of m [] = None
-first_of m (x ∷ xs) = if x.method == m then Some x else first_of m xs
+-- whether the first of all messages is for this method
+abbrev pub is_next : ℕ → List Message → Bool
+is_next m [] = false
+is_next m (x ∷ xs) = x.method == m
 
 -- the object o is to take the message, which is not the first one of its sender for its method
 abbrev pub IsGone : ℕ → Parcel → List (Pair × List Message) → Type 0

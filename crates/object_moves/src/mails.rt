@@ -1,36 +1,34 @@
 //! Messages that wait, and how they change where one is sent or taken.
-ghost use Rattle.std.specs.Prelude.{◌≡◌, ◌≢◌, ◌<◌, [], Ok, Some, None, IfSome, IfNone, length, map, slice_index_or, true, false};
-ghost use Rattle.pool_semantics.specs.declared.plain.mail.Mail.{Mail as OneMail};
+ghost use Rattle.std.specs.Prelude.{◌≡◌, ◌≢◌, [], Ok, Some, map, true, false};
 ghost use Rattle.run_types.specs.Tables.{pair_cmp, list_at};
-ghost use Rattle.pool_semantics.specs.Mails.{message_of, posts};
+ghost use Rattle.message_queue.specs.Mails.{message_of, first_of};
+ghost use Rattle.pool_semantics.specs.Mails.{posts};
 ghost use Rattle.object_moves.specs.Known.{parcel_message};
-ghost use Rattle.object_moves.specs.Waiting.{IsGone, IsMoved, IsTaken, first_of};
+ghost use Rattle.object_moves.specs.Waiting.{IsGone, IsMoved, IsTaken, is_next};
 
 use crate::known::{Lead, Parcel};
 use crate::labels::same_values;
-use pool_semantics::{Mail, post, unpost};
+use message_queue::{Mail, MessageQueue};
+use pool_semantics::{post, unpost};
 use run_types::NameId;
 use std::alloc::{AllocError, Global};
-use std::collections::{BTreeMap, VecDeque};
+use std::collections::BTreeMap;
 
 /// Whether a message from the sender to the receiver waits.
-pub fn waits(messages: &BTreeMap<(u32, u32), VecDeque<Mail>>, sender: u32, receiver: u32) -> bool
+pub fn waits(messages: &BTreeMap<(u32, u32), MessageQueue>, sender: u32, receiver: u32) -> bool
     ensures { result ≡ false → list_at pair_cmp (sender, receiver) (posts messages.now.entries) ≡ [] }
 {
     messages.get(&(sender, receiver)).is_some()
 }
 
-/// The index of the first message of the queue for this method. None if there is none.
-fn first_of(queue: &VecDeque<Mail>, method: NameId) -> Option<usize>
-    ensures some { IfSome result (λ i. (i < length queue.now.items) × ((d : OneMail) → first_of method.0 (map message_of queue.now.items) ≡ Some (message_of (slice_index_or queue.now.items i d)))) }
-    ensures none { IfNone result (first_of method.0 (map message_of queue.now.items) ≡ None) }
+/// Whether the first message of the queue is for this method.
+fn is_next(queue: &MessageQueue, method: NameId) -> bool
+    ensures { result ≡ is_next method.0 (map message_of queue.now) }
 {
-    for at in 0..queue.len() {
-        if queue[at].method.0 == method.0 {
-            return Some(at);
-        }
+    match queue.front() {
+        Some(mail) => mail.method.0 == method.0,
+        None => false,
     }
-    None
 }
 
 /// Whether the message is for this method and has these arguments.
@@ -44,7 +42,7 @@ fn is_mail(mail: &Mail, act: &Parcel) -> bool
 /// Takes this message to the receiver, if it is the first one of its sender. `Impossible` if no object can take it, since
 /// it is not the first one of its sender for its method. `Unknown` if others are before it. The messages are then the same.
 fn take_first(
-    messages: &mut BTreeMap<(u32, u32), VecDeque<Mail>>,
+    messages: &mut BTreeMap<(u32, u32), MessageQueue>,
     receiver: u32,
     act: &Parcel,
 ) -> Lead
@@ -53,19 +51,19 @@ fn take_first(
 {
     match messages.get(&(act.other, receiver)) {
         None => return Lead::Impossible,
-        Some(queue) => match first_of(queue, act.method) {
+        Some(queue) => match queue.first_of(act.method) {
             None => return Lead::Impossible,
-            Some(at) => {
-                if !is_mail(&queue[at], act) {
+            Some(mail) => {
+                if !is_mail(mail, act) {
                     return Lead::Impossible;
                 }
-                if at != 0 {
+                if !is_next(queue, act.method) {
                     return Lead::Unknown;
                 }
             }
         },
     }
-    unpost(messages, act.other, receiver, 0);
+    unpost(messages, act.other, receiver, act.method);
     Lead::Made
 }
 
@@ -74,7 +72,7 @@ fn take_first(
 /// method. `Unknown` if others are before it, or if there is no receiver. An error means out of memory.
 pub fn change_messages(
     alloc: Global,
-    messages: &mut BTreeMap<(u32, u32), VecDeque<Mail>>,
+    messages: &mut BTreeMap<(u32, u32), MessageQueue>,
     count: usize,
     object: u32,
     act: &Parcel,

@@ -15,10 +15,10 @@ use crate::known::{Birth, Duo, Lead, Next, One, Pair, Parcel, Solo, Two};
 use crate::mails::{change_messages, waits};
 use crate::small::MOST;
 use crate::table::MoveTable;
-use pool_semantics::Mail;
+use message_queue::MessageQueue;
 use run_types::{Label, NameId};
 use std::alloc::AllocError;
-use std::collections::{BTreeMap, VecDeque};
+use std::collections::BTreeMap;
 
 /// Whether the transition of one object is followed: a write unless `silent`, an error always, a pick never.
 fn is_followed(silent: bool, act: Solo) -> bool
@@ -101,7 +101,7 @@ impl<'a> MoveTable<'a> {
     fn make_two(
         &mut self,
         numbers: &mut Vec<u32>,
-        messages: &BTreeMap<(u32, u32), VecDeque<Mail>>,
+        messages: &BTreeMap<(u32, u32), MessageQueue>,
         receiver: u32,
         caller: u32,
         act: &Duo,
@@ -150,7 +150,7 @@ impl<'a> MoveTable<'a> {
     fn make_mail(
         &mut self,
         numbers: &mut Vec<u32>,
-        messages: &mut BTreeMap<(u32, u32), VecDeque<Mail>>,
+        messages: &mut BTreeMap<(u32, u32), MessageQueue>,
         object: u32,
         act: &Parcel,
     ) -> Result<Lead, AllocError>
@@ -229,7 +229,7 @@ impl<'a> MoveTable<'a> {
     fn make_in(
         &mut self,
         numbers: &mut Vec<u32>,
-        messages: &mut BTreeMap<(u32, u32), VecDeque<Mail>>,
+        messages: &mut BTreeMap<(u32, u32), MessageQueue>,
         label: &Label,
     ) -> Result<Lead, AllocError>
         requires within { AreWithin (states self.old.table) numbers.old.items }
@@ -319,7 +319,7 @@ impl<'a> MoveTable<'a> {
     fn settle_send(
         &mut self,
         numbers: &mut Vec<u32>,
-        messages: &mut BTreeMap<(u32, u32), VecDeque<Mail>>,
+        messages: &mut BTreeMap<(u32, u32), MessageQueue>,
         moved: &mut Vec<u32>,
         object: u32,
         at: u32,
@@ -352,7 +352,7 @@ impl<'a> MoveTable<'a> {
     fn settle_object(
         &mut self,
         numbers: &mut Vec<u32>,
-        messages: &mut BTreeMap<(u32, u32), VecDeque<Mail>>,
+        messages: &mut BTreeMap<(u32, u32), MessageQueue>,
         moved: &mut Vec<u32>,
         object: u32,
         silent: bool,
@@ -403,7 +403,7 @@ impl<'a> MoveTable<'a> {
     fn settle_row(
         &mut self,
         numbers: &mut Vec<u32>,
-        messages: &mut BTreeMap<(u32, u32), VecDeque<Mail>>,
+        messages: &mut BTreeMap<(u32, u32), MessageQueue>,
         moved: &mut Vec<u32>,
         silent: bool,
     ) -> Result<bool, AllocError>
@@ -431,7 +431,7 @@ impl<'a> MoveTable<'a> {
     fn settle_new(
         &mut self,
         numbers: &mut Vec<u32>,
-        messages: &mut BTreeMap<(u32, u32), VecDeque<Mail>>,
+        messages: &mut BTreeMap<(u32, u32), MessageQueue>,
         moved: &mut Vec<u32>,
         label: &Label,
         silent: bool,
@@ -458,7 +458,7 @@ impl<'a> MoveTable<'a> {
     pub fn lead(
         &mut self,
         numbers: &mut Vec<u32>,
-        messages: &mut BTreeMap<(u32, u32), VecDeque<Mail>>,
+        messages: &mut BTreeMap<(u32, u32), MessageQueue>,
         moved: &mut Vec<u32>,
         label: &Label,
         silent: bool,

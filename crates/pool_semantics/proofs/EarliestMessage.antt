@@ -1,45 +1,15 @@
--- The earliest message for one of some methods.
-use Rattle.std.proofs.Common.{◌≡◌, refl, ap, ℕ, zero, suc, ◌<◌, List, [], ◌∷◌, length, map, slice_index_or, Option, Some, None, is_some, Bool, true, false, arith}
-use Rattle.std.specs.List.{list_any, remove}
+-- Messages of which one passes a test of its method.
+use Rattle.std.proofs.Common.{◌≡◌, refl, ap, sym, ◌∙◌, ℕ, zero, suc, ◌<◌, List, [], ◌∷◌, length, map, slice_index_or, Option, Some, None, is_some, Bool, true, false, ◌==◌, Bor, arith}
+use Rattle.std.specs.Option.{option_map}
+use Rattle.std.specs.List.{list_any}
+use Rattle.run_types.proofs.Laws.{same_some}
 use Rattle.pool_syntax.specs.declared.tree.Named.{Named}
-use Rattle.pool_relation.specs.Transition.{names_method, has_message, first_message, without_first}
-use Rattle.pool_semantics.specs.declared.plain.mail.Mail.{Mail}
+use Rattle.pool_relation.specs.Transition.{names_method, first_message, without_first}
+use Rattle.message_queue.specs.declared.Mail.{Mail}
 use Rattle.run_types.specs.Message.{Message}
 use Rattle.stepper_objects.specs.declared.offers.Offer.{Offer}
 use Rattle.stepper_objects.specs.Offers.{offered}
-use Rattle.pool_semantics.specs.Mails.{message_of}
-
--- no message before this place is on one of the methods
-abbrev pub NoneBefore : List Named → List Mail → ℕ → Type 0
-NoneBefore names ms i = (k : ℕ) (d : Mail) → k < i → names_method names (slice_index_or ms k d).method.0 ≡ false
-
-later : (names : List Named) (m : Mail) (ms : List Mail) (i : ℕ) → NoneBefore names (m ∷ ms) (suc i) → NoneBefore names ms i
-later names m ms i h = λ k d lt. h (suc k) d (omega arith)
-
-pub named_first : (names : List Named) (ms : List Mail) (i : ℕ) (e d : Mail) → i < length ms → NoneBefore names ms i → names_method names (slice_index_or ms i e).method.0 ≡ true → first_message names (map message_of ms) ≡ Some (message_of (slice_index_or ms i d))
-named_first names [] i e d lt h n = absurd (omega arith)
-named_first names (m ∷ ms) zero e d lt h n = rw n refl
-named_first names (m ∷ ms) (suc i) e d lt h n = let f : names_method names m.method.0 ≡ false = h 0 e (omega arith) in rw f (named_first names ms i e d (omega arith) (later names m ms i h) n)
-
-pub named_at : (names : List Named) (ms : List Mail) (i : ℕ) (e : Mail) → i < length ms → names_method names (slice_index_or ms i e).method.0 ≡ true → has_message names (map message_of ms) ≡ true
-named_at names [] i e lt n = absurd (omega arith)
-named_at names (m ∷ ms) zero e lt n = rw n refl
-named_at names (m ∷ ms) (suc i) e lt n = let r = named_at names ms i e (omega arith) n in grind (arith, r)
-
-pub named_rest : (names : List Named) (ms : List Mail) (i : ℕ) (e : Mail) → i < length ms → NoneBefore names ms i → names_method names (slice_index_or ms i e).method.0 ≡ true → without_first names (map message_of ms) ≡ map message_of (remove ms i)
-named_rest names [] i e lt h n = absurd (omega arith)
-named_rest names (m ∷ ms) zero e lt h n = rw n refl
-named_rest names (m ∷ ms) (suc i) e lt h n =
-    let f : names_method names m.method.0 ≡ false = h 0 e (omega arith) in
-    rw f (ap (λ l. message_of m ∷ l) (named_rest names ms i e (omega arith) (later names m ms i h) n))
-
-pub named_none : (names : List Named) (ms : List Mail) (e : Mail) → NoneBefore names ms (length ms) → has_message names (map message_of ms) ≡ false
-named_none names [] e h = refl
-named_none names (m ∷ ms) e h = let f : names_method names m.method.0 ≡ false = h 0 e (omega arith) in rw f (named_none names ms e (later names m ms (length ms) h))
-
-pub none_in : (names : List Named) (ms : List Mail) (e : Mail) → NoneBefore names ms (length ms) → first_message names (map message_of ms) ≡ None
-none_in names [] e h = refl
-none_in names (m ∷ ms) e h = let f : names_method names m.method.0 ≡ false = h 0 e (omega arith) in rw f (none_in names ms e (later names m ms (length ms) h))
+use Rattle.message_queue.specs.Mails.{message_of, without_of}
 
 -- no message before this place passes the test
 abbrev pub NoneSo : (ℕ → Bool) → List Mail → ℕ → Type 0
@@ -61,3 +31,33 @@ any_none f (m ∷ ms) h = let g : f m.method.0 ≡ false = h 0 m (omega arith) i
 pub offered_some : (r : Option Offer) → is_some (offered r) ≡ is_some r
 offered_some None = refl
 offered_some (Some v) = refl
+
+-- what a queue lends as the first message for some methods
+pub no_first : (q : List Mail) (names : List Named) (r : Option (Bor Mail)) → option_map (λ m. message_of m.now) r ≡ first_message names (map message_of q) → r ≡ None → first_message names (map message_of q) ≡ None
+no_first q names r h e = sym h ∙ ap (option_map (λ m. message_of m.now)) e
+
+pub the_first : (q : List Mail) (names : List Named) (r : Option (Bor Mail)) (x : Bor Mail) → option_map (λ m. message_of m.now) r ≡ first_message names (map message_of q) → r ≡ Some x → first_message names (map message_of q) ≡ Some (message_of x.now)
+the_first q names r x h e = sym h ∙ ap (option_map (λ m. message_of m.now)) e
+
+first_passes : (names : List Named) (f : Message) (ms : List Message) → first_message names ms ≡ Some f → names_method names f.method ≡ true
+first_passes names f [] h = absurd (grind (arith, h))
+first_passes names f (m ∷ ms) h = by (names_method names m.method) refl (λ i. first_passes names f ms i)
+  where
+    by : (b : Bool) → names_method names m.method ≡ b → (first_message names ms ≡ Some f → names_method names f.method ≡ true) → names_method names f.method ≡ true
+    by true q i = let s : m ≡ f = same_some (rw q at h) in ap (λ x. names_method names x.method) (sym s) ∙ q
+    by false q i = i (rw q at h)
+
+-- the first message for some methods is also the first one for its own method
+pub without_named : (names : List Named) (a : ℕ) (f : Message) (ms : List Message) → first_message names ms ≡ Some f → (f.method == a) ≡ true → without_of a ms ≡ without_first names ms
+without_named names a f [] h e = refl
+without_named names a f (m ∷ ms) h e = by (names_method names m.method) refl (λ i. without_named names a f ms i e) (first_passes names f (m ∷ ms) h)
+  where
+    by : (b : Bool) → names_method names m.method ≡ b → (first_message names ms ≡ Some f → without_of a ms ≡ without_first names ms) → names_method names f.method ≡ true → without_of a (m ∷ ms) ≡ without_first names (m ∷ ms)
+    by true q i p = let s : m ≡ f = same_some (rw q at h) in let t : (m.method == a) ≡ true = ap (λ x. x.method == a) s ∙ e in rw (q, t) refl
+    by false q i p = rw (q, other (m.method == a) refl) (ap (λ l. m ∷ l) (i (rw q at h)))
+      where
+        other : (c : Bool) → (m.method == a) ≡ c → (m.method == a) ≡ false
+        other false t = t
+        other true t =
+            let s : m.method ≡ f.method = grind (arith, t, e) in
+            let z : names_method names m.method ≡ true = ap (names_method names) s ∙ p in absurd (grind (arith, z, q))

@@ -1,23 +1,14 @@
 -- Lists of labels that are built part by part.
-use Rattle.std.proofs.Common.{◌≡◌, refl, ap, ◌∙◌, ℕ, zero, suc, ◌<◌, List, [], ◌∷◌, ◌++◌, length, map, drop, slice_index_or, Some, None, append_assoc, arith}
+use Rattle.std.proofs.Common.{◌≡◌, refl, ap, ◌∙◌, ℕ, zero, suc, ◌<◌, List, [], ◌∷◌, ◌++◌, length, map, drop, Result, Ok, Err, OnOk, append_assoc, arith}
 use Rattle.run_types.specs.declared.types.Label.{Label}
 use Rattle.run_types.specs.declared.types.Label.TheVariants as L
-use Rattle.run_types.specs.declared.types.NameId.{NameId}
-use Rattle.run_types.specs.declared.types.Value.{Value}
-use Rattle.pool_syntax.specs.declared.tree.Named.{Named}
 use Rattle.run_types.specs.Tables.{Pair}
 use Rattle.pool_relation.specs.Reducible.{Choice}
-use Rattle.pool_relation.specs.Action as A
-use Rattle.pool_relation.specs.Action.{Object, Action}
-use Rattle.reachability.specs.Labels.{own_labels, picks, takes}
-use Rattle.stepper_objects.specs.declared.act.Act.{Act}
-use Rattle.stepper_objects.specs.declared.act.Act.TheVariants as C
-use Rattle.stepper_objects.specs.Acts.{acted}
+use Rattle.reachability.specs.Labels.{picks, takes}
 use Rattle.stepper_terms.specs.declared.contexts.Guarded.{Guarded}
 use Rattle.stepper_terms.specs.Reduced.{choices}
-use Rattle.pool_semantics.specs.declared.plain.mail.Mail.{Mail}
-use Rattle.pool_semantics.specs.Mails.{message_of}
-use Rattle.pool_semantics.specs.SearchQueries.{free_label}
+use Rattle.message_queue.specs.declared.Mail.{Mail}
+use Rattle.message_queue.specs.Mails.{message_of}
 
 -- one part more is there
 pub grown : {X : Type 0} (old new part rest all : List X) → new ≡ old ++ part → old ++ (part ++ rest) ≡ all → new ++ rest ≡ all
@@ -41,3 +32,13 @@ no_picks o k zero [] h = refl
 no_picks o k (suc i) [] h = refl
 no_picks o k zero (c ∷ cs) h = absurd (omega (arith, h))
 no_picks o k (suc i) (c ∷ cs) h = no_picks o k i cs (omega (arith, h))
+
+-- takes of messages in two parts
+pub takes_both : (k : Pair) (ms ns : List Mail) → takes k (map message_of (ms ++ ns)) ≡ takes k (map message_of ms) ++ takes k (map message_of ns)
+takes_both k [] ns = refl
+takes_both k (m ∷ ms) ns = ap (λ l. take_of k m ∷ l) (takes_both k ms ns)
+
+-- what follows where a result is `Ok`
+pub on_ok : {X Y : Type 0} {P Q : Type 0} (r : Result X Y) → (P → Q) → OnOk r P → OnOk r Q
+on_ok (Ok x) f h = f h
+on_ok (Err y) f h = tt

@@ -4,8 +4,6 @@ use Rattle.std.specs.Prelude.{◌≤◌, ◌<◌, IfSome, IfNone}
 use Rattle.std.specs.Bool.{then_some}
 use Rattle.std.specs.List.{list_any}
 use Rattle.std.specs.Ordering.{nat_cmp}
-use Rattle.std.specs.declared.collections.VecDeque.{VecDeque}
-use Rattle.std.specs.Global.{Global}
 use Rattle.std.specs.Map.{lookup}
 use Rattle.std.specs.BTreeMap.{BTreeMap, is_at, get}
 use Rattle.run_types.specs.declared.types.Label.{Label}
@@ -29,7 +27,7 @@ use Rattle.stepper_objects.specs.Acts.{acted}
 use Rattle.stepper_objects.specs.Offers.{offer_act}
 use Rattle.stepper_objects.specs.ObjectStates.{thing_object}
 use Rattle.stepper_terms.specs.Arguments.{now_args, now_names, now_choices}
-use Rattle.pool_semantics.specs.declared.plain.mail.Mail.{Mail}
+use Rattle.message_queue.specs.declared.Mail.{Mail}
 use Rattle.pool_semantics.specs.Mails.{queued, posts}
 use Rattle.pool_semantics.specs.Sound.{Sound}
 use Rattle.pool_semantics.specs.Moving.{goes_alone, is_offered, would_answer, Takes, Answers, MovesBy, alone, answers, IsTheOne, IsLeast, lesser}
@@ -153,17 +151,17 @@ object_there p m ms o b t = on t
 abbrev pub TakesOf : ProgramTree → Configuration → Pair → ℕ → Type 0
 TakesOf p c k b = (b ≡ k.1) × Takes p c b (messages_of c k.0 k.1)
 
-pub pair_there : (p : ProgramTree) (c : Configuration) (es : List (Pair × VecDeque Mail Global)) (k : Pair) (b : ℕ) → c.messages ≡ posts es → TakesOf p c k b → is_some (lookup (is_at (pair_cmp k)) es) ≡ true
+pub pair_there : (p : ProgramTree) (c : Configuration) (es : List (Pair × List Mail)) (k : Pair) (b : ℕ) → c.messages ≡ posts es → TakesOf p c k b → is_some (lookup (is_at (pair_cmp k)) es) ≡ true
 pair_there p c es (s, q) b e t = by (lookup (is_at (pair_cmp (s, q))) es) refl
   where
-    by : (w : Option (VecDeque Mail Global)) → lookup (is_at (pair_cmp (s, q))) es ≡ w → is_some (lookup (is_at (pair_cmp (s, q))) es) ≡ true
+    by : (w : Option (List Mail)) → lookup (is_at (pair_cmp (s, q))) es ≡ w → is_some (lookup (is_at (pair_cmp (s, q))) es) ≡ true
     by (Some w) h = rw h refl
     by None h =
         let empty : messages_of c s q ≡ [] = ap (λ ms. list_at pair_cmp (s, q) ms) e ∙ list_missing queued (s, q) es h in
         let z : false ≡ true = ap (is_offered (action p b t.1.object)) (sym empty) ∙ t.1.offered in absurd (cc)
 
 -- and the pair of an entry has its messages
-pub its_messages : (c : Configuration) (es : List (Pair × VecDeque Mail Global)) (k : Pair) (q : VecDeque Mail Global) → c.messages ≡ posts es → lookup (is_at (pair_cmp k)) es ≡ Some q → messages_of c k.0 k.1 ≡ queued q
+pub its_messages : (c : Configuration) (es : List (Pair × List Mail)) (k : Pair) (q : List Mail) → c.messages ≡ posts es → lookup (is_at (pair_cmp k)) es ≡ Some q → messages_of c k.0 k.1 ≡ queued q
 its_messages c es (s, r) q e h = ap (λ ms. list_at pair_cmp (s, r) ms) e ∙ list_found queued (s, r) es q h
 
 -- what the least object that moves says of labels

@@ -110,7 +110,7 @@ none_later : {X : Type 0} (k l : Pair) (es : List (Pair × X)) → pair_cmp k l 
 none_later k l [] h a = refl
 none_later k l (e ∷ es) h a = let c : pair_cmp k e.0 ≡ Less = pair_total.congr k l e.0 h ∙ a.0 in rw c (none_later k l es h a.1)
 
-none_without : {X Y : Type 0} (f : X → Y) (k : Pair) (es : List (Pair × X)) → lookup (is_at (pair_cmp k)) es ≡ None → without pair_cmp k (map (λ e. (e.0, f e.1)) es) ≡ map (λ e. (e.0, f e.1)) es
+pub none_without : {X Y : Type 0} (f : X → Y) (k : Pair) (es : List (Pair × X)) → lookup (is_at (pair_cmp k)) es ≡ None → without pair_cmp k (map (λ e. (e.0, f e.1)) es) ≡ map (λ e. (e.0, f e.1)) es
 none_without f k [] h = refl
 none_without {X = X} f k (e ∷ es) h = by (eq_by_cmp pair_cmp k e.0) refl (none_without f k es)
   where

@@ -5,8 +5,6 @@ use Rattle.std.specs.Ordering.{nat_cmp, is_eq}
 use Rattle.std.specs.Cmp.{tied_itself}
 use Rattle.std.specs.Option.{unwrap_or}
 use Rattle.std.specs.FinMap.Entries.{find}
-use Rattle.std.specs.declared.collections.VecDeque.{VecDeque}
-use Rattle.std.specs.Global.{Global}
 use Rattle.std.specs.Map.{lookup}
 use Rattle.std.specs.BTreeMap.{BTreeMap, is_at}
 use Rattle.run_types.specs.declared.types.Error.{Error}
@@ -22,7 +20,7 @@ use Rattle.pool_relation.specs.Transition.{running}
 use Rattle.pool_relation.proofs.Laws.{running_is}
 use Rattle.reachability.specs.Search.{is_in_call, is_left_over, WaitsAt, StaysAt, HasLeftOver, AnObject, AMessage, IsFaulty}
 use Rattle.stepper_objects.specs.declared.object_state.ObjectState.{ObjectState}
-use Rattle.pool_semantics.specs.declared.plain.mail.Mail.{Mail}
+use Rattle.message_queue.specs.declared.Mail.{Mail}
 use Rattle.pool_semantics.specs.Mails.{posts}
 use Rattle.pool_semantics.specs.Moving.{IsTheOne, IsLeast}
 use Rattle.pool_semantics.specs.SearchQueries.{call_of, called, WaitsFrom}
@@ -159,12 +157,12 @@ message_left p c h n = by c.messages refl
         at_head f ms k = subst (λ o. has_some (unwrap_or (cond (is_eq o) (Some f.1) (find pair_cmp f.0 ms)) []) ≡ true) (sym (tied_itself pair_total f.0)) (first (has_some f.1) (no_entry_empty ms) k)
 
 -- the map of messages is empty where no pair has one
-pub nothing_posted : (es : List (Pair × VecDeque Mail Global)) (b : Bool) → (IsTrue b ↔ (length es ≡ 0)) → not b ≡ false → posts es ≡ []
+pub nothing_posted : (es : List (Pair × List Mail)) (b : Bool) → (IsTrue b ↔ (length es ≡ 0)) → not b ≡ false → posts es ≡ []
 nothing_posted [] b h e = refl
 nothing_posted (f ∷ es) true h e = absurd (let z : length (f ∷ es) ≡ 0 = h.0 refl in omega (arith, z))
 nothing_posted (f ∷ es) false h e = absurd (let z : true ≡ false = e in cc)
 
-pub some_posted : (es : List (Pair × VecDeque Mail Global)) (b : Bool) → (IsTrue b ↔ (length es ≡ 0)) → not b ≡ true → (posts es ≢ [])
+pub some_posted : (es : List (Pair × List Mail)) (b : Bool) → (IsTrue b ↔ (length es ≡ 0)) → not b ≡ true → (posts es ≢ [])
 some_posted [] true h e n = let z : false ≡ true = e in cc
 some_posted [] false h e n = let z : false ≡ true = h.1 refl in cc
 some_posted (f ∷ es) b h e n = absurd (cc)

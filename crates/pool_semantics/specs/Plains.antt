@@ -10,12 +10,12 @@ use Rattle.pool_relation.specs.Action.{action}
 use Rattle.pool_relation.specs.Configuration.{Configuration}
 use Rattle.stepper_objects.specs.Acts.{acted, Suits}
 use Rattle.stepper_terms.specs.Arguments.{now_args, now_names, now_choices}
-use Rattle.pool_semantics.specs.Mails.{message_of}
+use Rattle.message_queue.specs.Mails.{message_of}
 use Rattle.stepper_objects.specs.ObjectStates.{thing_object, things}
 
 -- the configuration that s represents
 abbrev pub configuration : State → Configuration
-configuration s = record { objects = things s.objects.entries; messages = map (λ e. (e.0, map message_of e.1.items)) s.messages.entries }
+configuration s = record { objects = things s.objects.entries; messages = map (λ e. (e.0, map message_of e.1)) s.messages.entries }
 
 -- the object of the name o is t, which has met no error and has this next action
 pub record Doing (p : ProgramTree) (m : BTreeMap ℕ ObjectState) (o : ℕ) (t : ObjectState) (a : Act) : Type 0 where

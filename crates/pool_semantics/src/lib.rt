@@ -6,6 +6,5 @@
 
 mod plain;
 
-pub use plain::{
-    Mail, Plain, Refuse, State, Waiting, agent, post, push_labels, redex_args, unpost,
-};
+pub use message_queue::Mail;
+pub use plain::{Plain, Refuse, State, Waiting, agent, post, push_labels, redex_args, unpost};

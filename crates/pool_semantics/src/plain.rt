@@ -17,7 +17,7 @@ ghost use Rattle.pool_semantics.specs.Sound.{Sound};
 ghost use Rattle.pool_relation.specs.Progress.{agent};
 
 pub use crate::plain::labels::push_labels;
-pub use crate::plain::mail::{Mail, post, unpost};
+pub use crate::plain::mail::{post, unpost};
 use crate::plain::moving::lesser;
 use crate::plain::objects::add;
 pub use crate::plain::redex::redex_args;

@@ -1,5 +1,6 @@
 //! The labels that a search tries, and transitions that need no choice.
-ghost use Rattle.std.specs.Prelude.{◌≡◌, ◌≤◌, ℕ, ◌++◌, Some, None, length, is_some, IfSome, IfNone, OnOk, true, false};
+ghost use Rattle.std.specs.Prelude.{◌≡◌, ◌≤◌, ℕ, ◌++◌, Some, None, length, map, is_some, IfSome, IfNone, OnOk, true, false};
+ghost use Rattle.std.specs.BTreeMap.{values};
 ghost use Rattle.pool_syntax.specs.TreeOf.{program_of};
 ghost use Rattle.run_types.specs.declared.types.Label.{Label};
 ghost use Rattle.pool_relation.specs.Action.{Object, action};
@@ -10,6 +11,7 @@ ghost use Rattle.reachability.specs.Search.{needs_no_choice};
 ghost use Rattle.stepper_terms.specs.Arguments.{now_args, now_names, now_choices};
 ghost use Rattle.stepper_objects.specs.Acts.{acted};
 ghost use Rattle.stepper_objects.specs.ObjectStates.{thing_object};
+ghost use Rattle.message_queue.specs.Mails.{message_of};
 ghost use Rattle.pool_semantics.specs.Mails.{queued};
 ghost use Rattle.pool_semantics.specs.PlainOf.{configuration_of, program_tree, is_spent};
 ghost use Rattle.pool_semantics.specs.Plains.{configuration};
@@ -18,13 +20,13 @@ ghost use Rattle.pool_semantics.specs.Sound.{Sound};
 ghost use Rattle.pool_semantics.specs.SearchQueries.{free_label, free_at, silent_at};
 
 use crate::plain::Plain;
-use crate::plain::mail::Mail;
 use crate::plain::redex::redex_args;
 use crate::plain::state::{State, next_act};
+use message_queue::{Mail, MessageQueue};
 use pool_syntax::Program;
 use run_types::Label;
 use std::alloc::AllocError;
-use std::collections::VecDeque;
+use std::collections::{BTreeMap, VecDeque};
 use stepper_objects::act::Act;
 use stepper_objects::object_state::ObjectState;
 use stepper_terms::contexts::{Continuation, Focus, Task};
@@ -120,26 +122,60 @@ fn push_own(
     }
 }
 
+/// Adds a take of each of these messages of this pair. Reports `AllocError` if memory runs out.
+fn push_early(
+    into: &mut Vec<Label>,
+    sender: u32,
+    receiver: u32,
+    mails: &VecDeque<Mail>,
+) -> Result<(), AllocError>
+    ensures { OnOk result (into.new.items ≡ into.old.items ++ takes (sender, receiver) (map message_of mails.now.items)) }
+{
+    let mut at = 0;
+    while at < mails.len() {
+        into.push(Label::Take {
+            receiver,
+            sender,
+            method: mails[at].method,
+            args: mails[at].args,
+        })?;
+        at += 1;
+    }
+    Ok(())
+}
+
+/// The same of messages by their stamps.
+fn push_later(
+    into: &mut Vec<Label>,
+    sender: u32,
+    receiver: u32,
+    mails: &BTreeMap<u64, Mail>,
+) -> Result<(), AllocError>
+    ensures { OnOk result (into.new.items ≡ into.old.items ++ takes (sender, receiver) (map message_of (values mails.now))) }
+{
+    for mail in mails.values() {
+        into.push(Label::Take {
+            receiver,
+            sender,
+            method: mail.method,
+            args: mail.args,
+        })?;
+    }
+    Ok(())
+}
+
 /// Adds a take of each message of this pair. Reports `AllocError` if memory runs out.
 fn push_takes(
     into: &mut Vec<Label>,
     sender: u32,
     receiver: u32,
-    queue: &VecDeque<Mail>,
+    queue: &MessageQueue,
 ) -> Result<(), AllocError>
     ensures { OnOk result (into.new.items ≡ into.old.items ++ takes (sender, receiver) (queued queue.now)) }
 {
-    let mut at = 0;
-    while at < queue.len() {
-        into.push(Label::Take {
-            receiver,
-            sender,
-            method: queue[at].method,
-            args: queue[at].args,
-        })?;
-        at += 1;
-    }
-    Ok(())
+    let (early, later) = queue.parts();
+    push_early(into, sender, receiver, early)?;
+    push_later(into, sender, receiver, later)
 }
 
 /// Adds the labels of this object's next action. The object is in a typed configuration of the program. A new object

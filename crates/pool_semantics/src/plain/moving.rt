@@ -9,10 +9,10 @@ ghost use Rattle.pool_semantics.specs.Mails.{queued};
 ghost use Rattle.pool_semantics.specs.Moving.{lesser, goes_alone, would_answer, MovesBy, Takes, IsTheOne, IsLeast};
 ghost use Rattle.pool_semantics.specs.Plains.{configuration};
 
-use crate::plain::mail::{Mail, any_offered};
+use crate::plain::mail::any_offered;
 use crate::plain::state::State;
+use message_queue::MessageQueue;
 use run_types::NameId;
-use std::collections::VecDeque;
 use stepper_objects::act::Act;
 use stepper_objects::offers::{has_open_plain, offer_to};
 use stepper_terms::contexts::Continuation;
@@ -75,7 +75,7 @@ impl<'a> State<'a> {
     }
 
     /// The receiver, if it can take a message of the queue.
-    pub(crate) fn taker(&self, receiver: u32, queue: &VecDeque<Mail>) -> Option<u32>
+    pub(crate) fn taker(&self, receiver: u32, queue: &MessageQueue) -> Option<u32>
         ensures { IsTheOne (λ b. (b ≡ receiver) × Takes (program_of self.now.program.now) (configuration self.now) b (queued queue.now)) result }
     {
         match self.acting(receiver) {

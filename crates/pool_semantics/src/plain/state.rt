@@ -13,13 +13,13 @@ ghost use Rattle.pool_semantics.specs.Shown.{shown_at};
 ghost use Rattle.pool_semantics.specs.Plains.{Doing, Stepped, configuration};
 
 use crate::plain::items::{same_error, same_item};
-use crate::plain::mail::Mail;
 use crate::plain::objects::{add, update};
 use crate::plain::redex::show;
+use message_queue::MessageQueue;
 use pool_syntax::Program;
 use run_types::{Error, Item, Label, NameId, Redex, Value};
 use std::alloc::{AllocError, Global};
-use std::collections::{BTreeMap, VecDeque};
+use std::collections::BTreeMap;
 use stepper_objects::act::Act;
 use stepper_objects::change::Change;
 use stepper_objects::lookup::find_class;
@@ -33,7 +33,7 @@ pub struct State<'a> {
     pub alloc: Global,
     pub program: &'a Program,
     pub objects: BTreeMap<u32, ObjectState<'a>>,
-    pub messages: BTreeMap<(u32, u32), VecDeque<Mail>>,
+    pub messages: BTreeMap<(u32, u32), MessageQueue>,
 }
 
 /// The next action of the object of this name.

@@ -6,9 +6,10 @@ ghost use Rattle.run_types.specs.Same.{are_same};
 ghost use Rattle.pool_relation.specs.Configuration.{messages_of};
 ghost use Rattle.pool_semantics.specs.Plains.{Stepped, configuration};
 
-use crate::plain::mail::{Mail, first_named, post, unpost};
+use crate::plain::mail::{post, unpost};
 use crate::plain::objects::update;
 use crate::plain::state::State;
+use message_queue::Mail;
 use pool_syntax::Named;
 use run_types::operators::same;
 use run_types::{Args, Label, NameId, Value};
@@ -53,10 +54,7 @@ impl<'a> State<'a> {
     {
         match self.messages.get(&(sender, receiver)) {
             None => false,
-            Some(queue) => match first_named(queue, names) {
-                None => false,
-                Some(_) => true,
-            },
+            Some(queue) => queue.first_named(names).is_some(),
         }
     }
 
@@ -155,10 +153,10 @@ impl<'a> State<'a> {
         let Some(queue) = self.messages.get(&(sender, receiver)) else {
             return Ok(false);
         };
-        let Some(at) = first_named(queue, offer.names) else {
+        let Some(mail) = queue.first_named(offer.names) else {
             return Ok(false);
         };
-        if !is_mail(&queue[at], method, args.values()) {
+        if !is_mail(mail, method, args.values()) {
             return Ok(false);
         }
         let Some(found) = find_method(self.program, serving.class, method.0, args.values().len())
@@ -172,7 +170,7 @@ impl<'a> State<'a> {
             after: offer.after,
         };
         update(self.alloc, &mut self.objects, receiver, &serve)?;
-        unpost(&mut self.messages, sender, receiver, at);
+        unpost(&mut self.messages, sender, receiver, method);
         Ok(true)
     }
 

@@ -15,7 +15,7 @@ returns-in-None c =
     let k : Pair = (c.args.sender, c.args.receiver) in
     let h : lookup (is_at (pair_cmp k)) es ≡ None = sym c.get.ensures.value ∙ ap option_copied c.in-None.is in
     let base = c.args.text.now.items in
-    sym (ap (λ ms. base ++ mail_text c.args.names.now ms) (list_missing (λ q. map message_of q.items) k es h) ∙ append-nil base)
+    sym (ap (λ ms. base ++ mail_text c.args.names.now ms) (list_missing (λ q. map message_of q) k es h) ∙ append-nil base)
 
 pub returns-in-Some : goal.returns-in-Some
 returns-in-Some c =
@@ -24,5 +24,5 @@ returns-in-Some c =
     let h : lookup (is_at (pair_cmp k)) es ≡ Some c.in-Some.queue.now = sym c.get.ensures.value ∙ ap option_copied c.in-Some.is in
     let base = c.args.text.now.items in
     on_ok c.push_queue.result
-    (λ e. e ∙ sym (ap (λ ms. base ++ mail_text c.args.names.now ms) (list_found (λ q. map message_of q.items) k es c.in-Some.queue.now h)))
+    (λ e. e ∙ sym (ap (λ ms. base ++ mail_text c.args.names.now ms) (list_found (λ q. map message_of q) k es c.in-Some.queue.now h)))
     c.push_queue.ensures
