@@ -20,8 +20,8 @@ use Rattle.search_laws.specs.Outcomes.{Passed}
 use Rattle.search_laws.specs.Tried.{Course, Follows, Stays, GoesBy}
 use Rattle.object_moves.specs.Rows.{row, AreWithin}
 use Rattle.object_moves.specs.Followed.{AreChanged, passes}
-use Rattle.pool_search.specs.declared.numbered.Numbered.{Numbered}
-use Rattle.pool_search.specs.Numbers.{numbered, passed, queue_messages, EntryInvariant}
+use Rattle.pool_search.specs.Rows.{Row}
+use Rattle.pool_search.specs.Numbers.{AreListed, numbered, passed, queue_messages, EntryInvariant}
 use Rattle.pool_search.specs.Trials.{IsLedBy}
 use Rattle.pool_search.specs.VisitedConfigurations.{entry}
 use Rattle.pool_search.proofs.NumberingRoundTrip.{kept_at, passed_at}
@@ -31,9 +31,10 @@ use Rattle.pool_search.proofs.ObjectNumbers.{objects_rise}
 abbrev pub IsMade : ProgramTree → Course → Configuration → Configuration → Label → List ℕ → Type 0
 IsMade p k c e l moved = (d : Configuration) × (transition p c l ≡ Some d) × (f : Follows p k d e) × AreChanged (l ∷ passes f) moved
 
--- the row with the numbers and the messages of an entry is its configuration
-pub row_of : (xs : List Object) (e : Numbered) (ns : List ℕ) (ms : List (Pair × List Message)) → ns ≡ e.objects.items → ms ≡ map queue_messages e.queues.items → row xs ns ms ≡ numbered xs e
-row_of xs e ns ms same waiting = ap₂ (row xs) same waiting
+-- a row with the numbers and the messages of an entry is its configuration
+pub row_is_numbered : (vs xs : List Object) (ls : List (List Message)) (e : Row) (ns : List ℕ) (ms : List (Pair × List Message)) → vs ≡ xs → ns ≡ e.objects → ms ≡ map (queue_messages ls) e.queues
+    → row vs ns ms ≡ numbered xs ls e
+row_is_numbered vs xs ls e ns ms states same waiting = ap (λ (ts : List Object). row ts ns ms) states ∙ ap₂ (row xs) same waiting
 
 -- what is known of rows is known of the entries
 pub made_between : (p : ProgramTree) (l : Label) (moved : List ℕ) {k q : Course} {c d e f : Configuration} → q ≡ k → c ≡ e → d ≡ f → IsMade p q c d l moved → IsMade p k e f l moved
@@ -49,41 +50,48 @@ module _ (p : ProgramTree) (k : Course) where
   sound_made : (c e : Configuration) (l : Label) (moved : List ℕ) → IsMade p k c e l moved → Sound p c → Sound p e
   sound_made c e l moved made s = sound_along made.0 e made.2 (sound_is_kept p c made.0 l s made.1)
 
--- What is known of the entry e at the place `at`. The table of object states grew from xs to ys, and f is the entry that
--- is made.
-module _ (p : ProgramTree) (xs ys : List Object) (ws : List (List Item)) (es : List Numbered) (at : ℕ) (e : Numbered) (l : Label) (inside : at < length (map (passed xs ws) es))
-    (is : e ≡ get_or es at e) where
-  within : at < length es
-  within = omega (arith, inside, length-map es (passed xs ws))
+-- What is known of the entry e at the place `at`. The table of object states grew from xs to ys and that of lists of
+-- messages from ls to ns, and f is the entry that is made.
+module _ (p : ProgramTree) (xs ys : List Object) (ls ns : List (List Message)) (ws : List (List Item)) (es : List Row) (at : ℕ) (e : Row) (l : Label) (is : slice_get es at ≡ Some e) where
+  there : slice_get (map (passed xs ls ws) es) at ≡ Some (passed xs ls ws e)
+  there = passed_at xs ls ws es at e is
 
-  there : slice_get (map (passed xs ws) es) at ≡ Some (passed xs ws e)
-  there = passed_at xs ws es at e within is
-
-  pub impossible_from : transition p (numbered xs e) l ≡ None → IfSome (slice_get (map (passed xs ws) es) at) (λ x. transition p x.configuration l ≡ None)
+  pub impossible_from : transition p (numbered xs ls e) l ≡ None → IfSome (slice_get (map (passed xs ls ws) es) at) (λ x. transition p x.configuration l ≡ None)
   impossible_from h = rw there h
 
-  module _ (k : Course) (f : Numbered) (moved : List ℕ) (made : IsMade p k (numbered xs e) (numbered ys f) l moved) where
-    led : IsLedBy p k (numbered xs e) l (numbered ys f) moved
+  module _ (k : Course) (f : Row) (moved : List ℕ) (made : IsMade p k (numbered xs ls e) (numbered ys ns f) l moved) where
+    led : IsLedBy p k (numbered xs ls e) l (numbered ys ns f) moved
     led = record { next = made.0; step = made.1; follows = made.2; changed = made.3 }
 
     -- what is kept of it
-    pub kept_made : AreWithin ys f.objects.items → IsTrue (is_sorted pair_cmp (map queue_messages f.queues.items)) → All (EntryInvariant p xs) es → EntryInvariant p ys f
-    kept_made all sorted kept = record {
+    pub kept_made : AreWithin ys f.objects → AreListed ns f.queues → IsTrue (is_sorted pair_cmp (map (queue_messages ns) f.queues)) → All (EntryInvariant p xs ls) es → EntryInvariant p ys ns f
+    kept_made all listed sorted kept = record {
       within = all;
+      listed = listed;
       sorted = sorted;
-      sound = ∥∥₁_map (kept_at p xs es at e within is kept).sound (sound_made p k (numbered xs e) (numbered ys f) l moved made);
+      sound = ∥∥₁_map (kept_at p xs ls es at e is kept).sound (sound_made p k (numbered xs ls e) (numbered ys ns f) l moved made);
     }
 
-    -- it was there
-    pub seen_from : (i : ℕ) → map (passed ys ws) es ≡ map (passed xs ws) es → slice_get (map (passed ys ws) es) i ≡ Some (passed ys ws f)
-        → IfSome (slice_get (map (passed xs ws) es) at)
-        (λ x. (d : Configuration) × IsLedBy p k x.configuration l d moved × (slice_get (map (passed xs ws) es) i ≡ Some (entry f.next (get_or ws f.written []) d)))
-    seen_from i still found = rw there (numbered ys f, led, ap (λ (zs : List Passed). slice_get zs i) (sym still) ∙ found)
+    module _ (vs : List (List Item)) (old : List Passed) (lists : vs ≡ ws) (still : old ≡ map (passed xs ls ws) es) where
+      same_entry : passed ys ns vs f ≡ entry f.next (get_or ws f.written []) (numbered ys ns f)
+      same_entry = ap (λ (us : List (List Item)). entry f.next (get_or us f.written []) (numbered ys ns f)) lists
 
-    -- it was added
-    pub added_from : (i : ℕ) (new : List Passed) → IsTrue (is_sorted pair_cmp (map queue_messages f.queues.items)) → map (passed ys ws) es ≡ map (passed xs ws) es
-        → new ≡ map (passed ys ws) es ++ passed ys ws f ∷ [] → i ≡ length (map (passed ys ws) es)
-        → IfSome (slice_get (map (passed xs ws) es) at)
-        (λ x. (d : Configuration) × IsLedBy p k x.configuration l d moved × IsInOrder d × (new ≡ map (passed xs ws) es ++ entry f.next (get_or ws f.written []) d ∷ []) × (i ≡ length (map (passed xs ws) es)))
-    added_from i new sorted still grown last =
-        rw there (numbered ys f, led, (objects_rise 0 ys f.objects.items, sorted), grown ∙ ap (λ (zs : List Passed). zs ++ passed ys ws f ∷ []) still, last ∙ ap (λ (zs : List Passed). length zs) still)
+      -- it was there
+      pub seen_from : (i : ℕ) → slice_get old i ≡ Some (passed ys ns vs f)
+          → IfSome (slice_get (map (passed xs ls ws) es) at)
+          (λ x. (d : Configuration) × IsLedBy p k x.configuration l d moved × (slice_get (map (passed xs ls ws) es) i ≡ Some (entry f.next (get_or ws f.written []) d)))
+      seen_from i found = rw there (numbered ys ns f, led, ap (λ (zs : List Passed). slice_get zs i) (sym still) ∙ found ∙ ap Some same_entry)
+
+      -- it was added
+      pub added_from : (i : ℕ) (new : List Passed) → IsTrue (is_sorted pair_cmp (map (queue_messages ns) f.queues)) → new ≡ old ++ passed ys ns vs f ∷ [] → i ≡ length old
+          → IfSome (slice_get (map (passed xs ls ws) es) at)
+          (λ x. (d : Configuration) × IsLedBy p k x.configuration l d moved × IsInOrder d × (new ≡ map (passed xs ls ws) es ++ entry f.next (get_or ws f.written []) d ∷ [])
+          × (i ≡ length (map (passed xs ls ws) es)))
+      added_from i new sorted grown last =
+          rw there (
+            numbered ys ns f,
+            led,
+            (objects_rise 0 ys f.objects, sorted),
+            grown ∙ ap₂ (λ (zs : List Passed) (z : Passed). zs ++ z ∷ []) still same_entry,
+            last ∙ ap (λ (zs : List Passed). length zs) still,
+          )

@@ -1,9 +1,11 @@
 pub mod SortedMaps
 pub mod ObjectNumbers
+pub mod RowLists
 pub mod RowObjects
 pub mod StateTableGrowth
 pub mod WrittenListsGrowth
 pub mod NumberingSteps
+pub mod MessagesLeft
 pub mod NumberingRoundTrip
 mod Rows
 pub mod ListGrowth
@@ -16,5 +18,6 @@ pub mod OutcomesComplete
 pub mod ConfigurationClass
 pub mod WaiterLaws
 pub mod KnownLeads
+pub mod PartLaws
 pub mod MovedObjects
 pub mod TrialResults

@@ -4,6 +4,8 @@ use Rattle.std.specs.List.{slice_get}
 use Rattle.run_types.specs.Partial.{◌>>=◌}
 use Rattle.run_types.specs.declared.types.Item.{Item}
 use Rattle.run_types.specs.declared.types.Label.{Label}
+use Rattle.label_list.specs.declared.part.Part.{Part}
+use Rattle.label_list.specs.Parts.{label_of, labels_in, labels_of, times_of}
 use Rattle.pool_syntax.specs.Terms.{ProgramTree}
 use Rattle.pool_relation.specs.Configuration.{Configuration}
 use Rattle.pool_relation.specs.Transition.{run}
@@ -16,6 +18,7 @@ use Rattle.pool_search.specs.Leads.{HasMovedTo, IsEdge}
 use Rattle.pool_search.specs.Progress.{Entries}
 use Rattle.pool_search.specs.Trials.{IsLedBy}
 use Rattle.pool_search.specs.VisitedConfigurations.{entry}
+use Rattle.pool_search.proofs.PartLaws.{or_true, part_changed, some_changes_in}
 
 module _ (p : ProgramTree) (k : Course) where
   -- the labels of what is followed are followed, and lead there
@@ -43,26 +46,27 @@ moved_to p es n m c l moved to v d led there named =
     record { made = l ∷ passes led.follows; edge = edge; changed = led.changed }
 
 -- what one of the labels changes
-changed_among : (o : ℕ) (ls : List Label) (i : ℕ) (d : Label) → i < length ls → some_changes o (get_or ls i d ∷ []) ≡ true → some_changes o ls ≡ true
-changed_among o [] i d inside h = absurd (omega arith)
-changed_among o (l ∷ ls) zero d inside h = by (changes o l) h
+changed_among : (o : ℕ) (ps : List Part) (i : ℕ) (p : Part) → i < length ps → p ≡ get_or ps i p → 0 < times_of p → some_changes o (label_of p ∷ []) ≡ true → some_changes o (labels_in ps) ≡ true
+changed_among o [] i p inside is some h = absurd (omega arith)
+changed_among o (q ∷ qs) zero p inside is some h =
+    subst (λ (x : Part). some_changes o (labels_in (x ∷ qs)) ≡ true) is
+    (some_changes_in o (labels_of p) (labels_in qs) ∙ ap (λ b. b || some_changes o (labels_in qs)) (part_changed o p some ∙ changed_once (changes o (label_of p)) h))
   where
-    by : (b : Bool) → (b || false) ≡ true → (b || some_changes o ls) ≡ true
-    by true i = refl
-    by false i = absurd (let z : false ≡ true = i in cc)
-changed_among o (l ∷ ls) (suc i) d inside h = by (changes o l) (changed_among o ls i d (omega arith) h)
-  where
-    by : (b : Bool) → some_changes o ls ≡ true → (b || some_changes o ls) ≡ true
-    by true i = refl
-    by false i = i
+    changed_once : (b : Bool) → (b || false) ≡ true → b ≡ true
+    changed_once true i = refl
+    changed_once false i = i
+changed_among o (q ∷ qs) (suc i) p inside is some h =
+    some_changes_in o (labels_of q) (labels_in qs) ∙ ap (λ b. some_changes o (labels_of q) || b) (changed_among o qs i p (omega arith) is some h) ∙ or_true (some_changes o (labels_of q))
 
-pub one_more_changed : (ls : List Label) (i : ℕ) (l d : Label) (os qs : List ℕ) → i < length ls → l ≡ get_or ls i d → AreChanged ls os → HasMoved (l ∷ []) os qs → AreChanged ls qs
-one_more_changed ls i l d os qs inside is before grown = subst (AreChanged ls) (sym grown.1) (joined os grown.0 before (among grown.0 grown.2))
+-- one more part changed some objects
+pub one_more_changed : (ps : List Part) (i : ℕ) (p : Part) (os qs : List ℕ) → i < length ps → p ≡ get_or ps i p → 0 < times_of p → AreChanged (labels_in ps) os → HasMoved (label_of p ∷ []) os qs
+    → AreChanged (labels_in ps) qs
+one_more_changed ps i p os qs inside is some before grown = subst (AreChanged (labels_in ps)) (sym grown.1) (joined os grown.0 before (among grown.0 grown.2))
   where
-    among : (xs : List ℕ) → AreChanged (l ∷ []) xs → AreChanged ls xs
+    among : (xs : List ℕ) → AreChanged (label_of p ∷ []) xs → AreChanged (labels_in ps) xs
     among [] h = tt
-    among (x ∷ xs) h = (changed_among x ls i d inside (subst (λ (m : Label). some_changes x (m ∷ []) ≡ true) is h.0), among xs h.1)
+    among (x ∷ xs) h = (changed_among x ps i p inside is some h.0, among xs h.1)
 
-    joined : (xs ys : List ℕ) → AreChanged ls xs → AreChanged ls ys → AreChanged ls (xs ++ ys)
+    joined : (xs ys : List ℕ) → AreChanged (labels_in ps) xs → AreChanged (labels_in ps) ys → AreChanged (labels_in ps) (xs ++ ys)
     joined [] ys h k = k
     joined (x ∷ xs) ys h k = (h.0, joined xs ys h.1 k)

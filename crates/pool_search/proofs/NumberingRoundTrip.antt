@@ -3,7 +3,7 @@ use Rattle.std.proofs.Common.{◌≡◌, refl, sym, ap, ap₂, subst, ◌∙◌,
 use Rattle.std.proofs.Math.Logic.{∥∥₁_map}
 use Rattle.std.specs.Option.{option_map, IfSome}
 use Rattle.std.specs.List.{All, slice_get}
-use Rattle.std.proofs.lemmas.Option.{slice_get-map, slice_get_read}
+use Rattle.std.proofs.lemmas.Option.{get_or_from_slice_get, slice_get-map, slice_get_within}
 use Rattle.run_types.specs.declared.types.Item.{Item}
 use Rattle.run_types.specs.Message.{Message}
 use Rattle.run_types.specs.Tables.{Pair}
@@ -12,7 +12,7 @@ use Rattle.pool_relation.specs.Action.{Object}
 use Rattle.pool_relation.specs.Configuration.{Configuration}
 use Rattle.pool_semantics.specs.Sound.{Sound}
 use Rattle.pool_semantics.proofs.Laws.{sound_now}
-use Rattle.pool_search.specs.declared.numbered.Numbered.{Numbered}
+use Rattle.pool_search.specs.Rows.{Row}
 use Rattle.object_moves.specs.Rows.{objects_from}
 use Rattle.pool_search.specs.Numbers.{queue_messages, numbered, passed, EntryInvariant}
 
@@ -20,21 +20,21 @@ abbrev made_of : List (ℕ × Object) → List (Pair × List Message) → Config
 made_of os ms = record { objects = os; messages = ms }
 
 -- the entry at a place
-pub passed_at : (xs : List Object) (ws : List (List Item)) (es : List Numbered) (i : ℕ) (e : Numbered) → i < length es → e ≡ get_or es i e
-    → slice_get (map (passed xs ws) es) i ≡ Some (passed xs ws e)
-passed_at xs ws es i e l at = slice_get-map (passed xs ws) es i ∙ ap (option_map (passed xs ws)) (slice_get_read es (length es) i e refl l at)
+pub passed_at : (xs : List Object) (ms : List (List Message)) (ws : List (List Item)) (es : List Row) (i : ℕ) (e : Row) → slice_get es i ≡ Some e
+    → slice_get (map (passed xs ms ws) es) i ≡ Some (passed xs ms ws e)
+passed_at xs ms ws es i e there = slice_get-map (passed xs ms ws) es i ∙ ap (option_map (passed xs ms ws)) there
 
 -- the configuration at a place
-pub configuration_at : (xs : List Object) (ws : List (List Item)) (es : List Numbered) (i : ℕ) (e : Numbered) (c : Configuration) → i < length es → e ≡ get_or es i e
-    → c.objects ≡ objects_from 0 xs e.objects.items → c.messages ≡ map queue_messages e.queues.items
-    → IfSome (slice_get (map (passed xs ws) es) i) (λ x. c ≡ x.configuration)
-configuration_at xs ws es i e c l at o m =
-    let there = passed_at xs ws es i e l at in
+pub configuration_at : (xs : List Object) (ms : List (List Message)) (ws : List (List Item)) (es : List Row) (i : ℕ) (e : Row) (c : Configuration) → slice_get es i ≡ Some e
+    → c.objects ≡ objects_from 0 xs e.objects → c.messages ≡ map (queue_messages ms) e.queues
+    → IfSome (slice_get (map (passed xs ms ws) es) i) (λ x. c ≡ x.configuration)
+configuration_at xs ms ws es i e c at o m =
+    let there = passed_at xs ms ws es i e at in
     rw there (ap₂ made_of o m)
 
 -- what is kept of the entry at a place
-pub kept_at : (p : ProgramTree) (xs : List Object) (es : List Numbered) (i : ℕ) (e : Numbered) → i < length es → e ≡ get_or es i e → All (EntryInvariant p xs) es → EntryInvariant p xs e
-kept_at p xs es i e l at kept = subst (EntryInvariant p xs) (sym at) (kept i e l)
+pub kept_at : (p : ProgramTree) (xs : List Object) (ms : List (List Message)) (es : List Row) (i : ℕ) (e : Row) → slice_get es i ≡ Some e → All (EntryInvariant p xs ms) es → EntryInvariant p xs ms e
+kept_at p xs ms es i e at kept = subst (EntryInvariant p xs ms) (get_or_from_slice_get es i e e at) (kept i e (slice_get_within es i e at))
 
-pub sound_of : (p : ProgramTree) (xs : List Object) (e : Numbered) → EntryInvariant p xs e → Sound p (numbered xs e)
-sound_of p xs e kept = sound_now false p (numbered xs e) (∥∥₁_map kept.sound (λ s spent. s)) refl
+pub sound_of : (p : ProgramTree) (xs : List Object) (ms : List (List Message)) (e : Row) → EntryInvariant p xs ms e → Sound p (numbered xs ms e)
+sound_of p xs ms e kept = sound_now false p (numbered xs ms e) (∥∥₁_map kept.sound (λ s spent. s)) refl

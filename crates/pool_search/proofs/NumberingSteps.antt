@@ -1,7 +1,5 @@
 -- One step of each loop that numbers a configuration or restores it.
 use Rattle.std.proofs.Common.{◌≡◌, sym, ap, ap₂, subst, ◌∙◌, ℕ, ◌+◌, ◌<◌, List, [], ◌∷◌, ◌++◌, map, length, take, drop, get_or, Some, IsTrue, arith}
-use Rattle.std.specs.declared.collections.VecDeque.{VecDeque}
-use Rattle.std.specs.Global.{Global}
 use Rattle.std.specs.Ordering.{nat_cmp}
 use Rattle.std.specs.Cmp.{nat_cmp_total}
 use Rattle.std.specs.List.{All, slice_get}
@@ -16,13 +14,14 @@ use Rattle.run_types.specs.Tables.{Pair, pair_cmp}
 use Rattle.pool_relation.specs.Action.{Object}
 use Rattle.stepper_objects.specs.declared.object_state.ObjectState.{ObjectState}
 use Rattle.stepper_objects.specs.ObjectStates.{thing_object, things}
-use Rattle.pool_semantics.specs.declared.plain.mail.Mail.{Mail}
+use Rattle.message_queue.specs.declared.Mail.{Mail}
 use Rattle.pool_semantics.specs.Mails.{message_of, posts, queued}
 use Rattle.pool_search.specs.declared.numbered.Queue.{Queue}
 use Rattle.object_moves.specs.Rows.{no_object, objects_from}
-use Rattle.pool_search.specs.Numbers.{queue_messages}
+use Rattle.pool_search.specs.Numbers.{AreListed, queue_messages}
 use Rattle.pool_search.proofs.SortedMaps.{inserted, inserted_last}
 use Rattle.pool_search.proofs.ObjectNumbers.{objects_push, objects_rise}
+use Rattle.pool_search.proofs.StateTableGrowth.{front_of, listed_still, queues_still}
 use Rattle.object_moves.proofs.Laws.{front_of_front, objects_still, within_still}
 
 -- one more object is numbered; the table grew from xs to ys
@@ -54,19 +53,35 @@ objects_step xs ns i t es before l here =
     ∙ sym all
 
 -- one more queue is made of its messages
-pub messages_step : (qs : List Queue) (i : ℕ) (q : Queue) (d : VecDeque Mail Global) (es : List (Pair × VecDeque Mail Global)) → IsTrue (is_sorted pair_cmp (map queue_messages qs))
-    → posts es ≡ map queue_messages (take i qs) → i < length qs → q ≡ get_or qs i q → d.items ≡ q.mails.items
-    → posts (insert_entry pair_cmp es (q.sender, q.receiver) d) ≡ map queue_messages (take (i + 1) qs)
-messages_step qs i q d es sorted before l at items =
+pub messages_step : (ls : List (List Message)) (qs : List Queue) (i : ℕ) (q none : Queue) (d : List Mail) (es : List (Pair × List Mail)) → IsTrue (is_sorted pair_cmp (map (queue_messages ls) qs))
+    → posts es ≡ map (queue_messages ls) (take i qs) → i < length qs → q ≡ get_or qs i none → queued d ≡ get_or ls q.mails []
+    → posts (insert_entry pair_cmp es (q.sender, q.receiver) d) ≡ map (queue_messages ls) (take (i + 1) qs)
+messages_step ls qs i q none d es sorted before l at items =
     let key : Pair = (q.sender, q.receiver) in
-    let front : List (Pair × List Message) = map queue_messages (take i qs) in
-    let rest : List (Pair × List Message) = map queue_messages (drop (i + 1) qs) in
-    let here : queue_messages q ≡ (key, queued d) = ap (λ (ms : List Mail). (key, map message_of ms)) (sym items) in
-    let first : map queue_messages (take (i + 1) qs) ≡ front ++ (key, queued d) ∷ [] =
-    ap (map queue_messages) (take_more qs i q l ∙ ap (λ z. take i qs ++ z ∷ []) (sym at)) ∙ map-append queue_messages (take i qs) (q ∷ []) ∙ ap (λ z. front ++ z ∷ []) here in
-    let whole : map queue_messages qs ≡ front ++ (key, queued d) ∷ rest =
-    ap (map queue_messages) (sym (take-append-drop i qs) ∙ ap (λ z. take i qs ++ z) (drop_more qs i q l ∙ ap (λ z. z ∷ drop (i + 1) qs) (sym at)))
-    ∙ map-append queue_messages (take i qs) (q ∷ drop (i + 1) qs) ∙ ap (λ z. front ++ z ∷ rest) here in
+    let front : List (Pair × List Message) = map (queue_messages ls) (take i qs) in
+    let rest : List (Pair × List Message) = map (queue_messages ls) (drop (i + 1) qs) in
+    let here : queue_messages ls q ≡ (key, queued d) = ap (λ (ms : List Message). (key, ms)) (sym items) in
+    let first : map (queue_messages ls) (take (i + 1) qs) ≡ front ++ (key, queued d) ∷ [] =
+    ap (map (queue_messages ls)) (take_more qs i none l ∙ ap (λ z. take i qs ++ z ∷ []) (sym at)) ∙ map-append (queue_messages ls) (take i qs) (q ∷ []) ∙ ap (λ z. front ++ z ∷ []) here in
+    let whole : map (queue_messages ls) qs ≡ front ++ (key, queued d) ∷ rest =
+    ap (map (queue_messages ls)) (sym (take-append-drop i qs) ∙ ap (λ z. take i qs ++ z) (drop_more qs i none l ∙ ap (λ z. z ∷ drop (i + 1) qs) (sym at)))
+    ∙ map-append (queue_messages ls) (take i qs) (q ∷ drop (i + 1) qs) ∙ ap (λ z. front ++ z ∷ rest) here in
     inserted pair_cmp queued key d es ∙ ap (λ m. insert_entry pair_cmp m key (queued d)) before
     ∙ inserted_last pair_cmp pair_total key (queued d) front rest (subst (λ m. IsTrue (is_sorted pair_cmp m)) whole sorted)
     ∙ sym first
+
+-- one more queue is numbered; the table grew from ls to ns
+pub queues_step : (ts ls ns : List (List Message)) (qs : List Queue) (q : Queue) (d : List Mail) (es fs : List (Pair × List Mail)) (all : List (Pair × List Message))
+    → take (length ts) ls ≡ ts → AreListed ls qs → map (queue_messages ls) qs ++ posts es ≡ all
+    → es ≡ ((q.sender, q.receiver), d) ∷ fs → take (length ls) ns ≡ ls → slice_get ns q.mails ≡ Some (queued d)
+    → (take (length ts) ns ≡ ts) × AreListed ns (qs ++ q ∷ []) × (map (queue_messages ns) (qs ++ q ∷ []) ++ posts fs ≡ all)
+queues_step ts ls ns qs q d es fs all f k o e g found =
+    let key : Pair = (q.sender, q.receiver) in
+    let front : List (Pair × List Message) = map (queue_messages ls) qs in
+    let here : queue_messages ns q ≡ (key, queued d) = ap (λ (ms : List Message). (key, ms)) (get_or_from_slice_get ns q.mails (queued d) [] found) in
+    let pushed : map (queue_messages ns) (qs ++ q ∷ []) ≡ front ++ (key, queued d) ∷ [] =
+    map-append (queue_messages ns) qs (q ∷ []) ∙ ap (λ l. l ++ queue_messages ns q ∷ []) (queues_still ls ns g qs k) ∙ ap (λ z. front ++ z ∷ []) here in (
+      front_of ts ls ns f g,
+      All-push (λ (r : Queue). r.mails < length ns) qs q (listed_still ls ns g qs k) (slice_get_within ns q.mails (queued d) found),
+      ap (λ l. l ++ posts fs) pushed ∙ append_assoc front ((key, queued d) ∷ []) (posts fs) ∙ ap (λ l. front ++ posts l) (sym e) ∙ o,
+    )

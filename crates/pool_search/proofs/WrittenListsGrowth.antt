@@ -8,7 +8,8 @@ use Rattle.std.proofs.lemmas.List.Elements.{All-head, All-tail, All-weaker}
 use Rattle.run_types.specs.declared.types.Item.{Item}
 use Rattle.pool_relation.specs.Action.{Object}
 use Rattle.search_laws.specs.Outcomes.{Passed}
-use Rattle.pool_search.specs.declared.numbered.Numbered.{Numbered}
+use Rattle.run_types.specs.Message.{Message}
+use Rattle.pool_search.specs.Rows.{Row}
 use Rattle.pool_search.specs.declared.writings.Node.{Node}
 use Rattle.pool_search.specs.Numbers.{numbered, passed, IsNamed}
 use Rattle.pool_search.specs.VisitedConfigurations.{entry}
@@ -141,11 +142,12 @@ number_of_one ns new n number small is last =
     )
 
 -- of all that is kept
-pub lists_still : (xs : List Object) (vs ws : List (List Item)) (es : List Numbered) → IsGrown vs ws → All (IsNamed vs) es → map (passed xs ws) es ≡ map (passed xs vs) es
-lists_still xs vs ws [] g k = refl
-lists_still xs vs ws (e ∷ es) g k =
+pub lists_still : (xs : List Object) (ms : List (List Message)) (vs ws : List (List Item)) (es : List Row) → IsGrown vs ws → All (IsNamed vs) es
+    → map (passed xs ms ws) es ≡ map (passed xs ms vs) es
+lists_still xs ms vs ws [] g k = refl
+lists_still xs ms vs ws (e ∷ es) g k =
     let here : get_or ws e.written [] ≡ get_or vs e.written [] = ap (λ l. get_or l e.written []) g.1 ∙ still vs g.0 e.written (All-head (IsNamed vs) e es k) in
-    ap₂ (λ (w : List Item) (l : List Passed). entry e.next w (numbered xs e) ∷ l) here (lists_still xs vs ws es g (All-tail (IsNamed vs) e es k))
+    ap₂ (λ (w : List Item) (l : List Passed). entry e.next w (numbered xs ms e) ∷ l) here (lists_still xs ms vs ws es g (All-tail (IsNamed vs) e es k))
 
-pub names_still : (vs ws : List (List Item)) (es : List Numbered) → IsGrown vs ws → All (IsNamed vs) es → All (IsNamed ws) es
+pub names_still : (vs ws : List (List Item)) (es : List Row) → IsGrown vs ws → All (IsNamed vs) es → All (IsNamed ws) es
 names_still vs ws es g k = All-weaker (IsNamed vs) (IsNamed ws) (λ e l. let long = ap length g.1 in omega (arith, length-append vs g.0)) es k

@@ -26,6 +26,6 @@ IsNoted p os e = IsAtEnd p e.configuration → HasOutcome p os e.items e.configu
 
 -- the result is a run with its outcome
 abbrev pub IsShownRun : ProgramTree → OutcomeRun → Type 0
-IsShownRun p (R.Shown o ls) = IsRunOf p o ls.items
+IsShownRun p (R.Shown o ls) = IsRunOf p o ls
 IsShownRun p (R.Finite k) = ⊥
 IsShownRun p (R.Over k) = ⊥

@@ -2,6 +2,7 @@
 pub mod SearchTargets
 pub mod OutcomeTargets
 -- Internal: what it does not.
+pub mod Rows
 pub mod Numbers
 pub mod WrittenLists
 pub mod WritingsOf

@@ -15,8 +15,8 @@ pub record IsPassedBy (p : ProgramTree) (q : Query) (c : Configuration) : Type 0
 -- The run of a result leads to a configuration that the query looks
 -- for. `Finite` says that no run does. `Over` says nothing about runs.
 abbrev pub IsAnswer : ProgramTree → Query → SearchResult → Type 0
-IsAnswer p q (F.Stuck ls) = LeadsInOrder p ls.items (IsWantedEnd p q)
-IsAnswer p q (F.Dead ls names) = LeadsInOrder p ls.items (IsWantedDead p q names.items)
-IsAnswer p q (F.Fault ls) = LeadsInOrder p ls.items (IsShownFault p q)
+IsAnswer p q (F.Stuck ls) = LeadsInOrder p ls (IsWantedEnd p q)
+IsAnswer p q (F.Dead ls names) = LeadsInOrder p ls (IsWantedDead p q names.items)
+IsAnswer p q (F.Fault ls) = LeadsInOrder p ls (IsShownFault p q)
 IsAnswer p q (F.Finite k) = IsFinite p q k
 IsAnswer p q (F.Over k) = k ≤ q.most

@@ -19,12 +19,12 @@ kept_lists k = lists_of k.writings
 
 -- the configurations in order, each with its next free name and what was written
 abbrev pub kept_list : VisitedSet → List Passed
-kept_list k = map (passed (known_states k.moves) (kept_lists k)) k.entries.items
+kept_list k = map (passed (known_states k.moves) k.mails (kept_lists k)) k.rows
 
 -- a configuration with its next free name and what was written
 abbrev pub entry : ℕ → List Item → Configuration → Passed
 entry n w c = record { next = n; items = w; configuration = c }
 
--- no number is left for an object state or for a configuration
+-- no number is left for an object state, for a configuration or for a list of messages
 abbrev pub IsFull : VisitedSet → Type 0
-IsFull k = (2 ^ 32 - 1 ≤ length (known_states k.moves)) ⊎ (2 ^ 32 ≤ length (kept_list k))
+IsFull k = (2 ^ 32 - 1 ≤ length (known_states k.moves)) ⊎ (2 ^ 32 ≤ length (kept_list k)) ⊎ (2 ^ 32 ≤ length k.mails)

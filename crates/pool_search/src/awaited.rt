@@ -1,5 +1,5 @@
 //! Whether only objects that wait for an object know its name, from the numbers of a configuration.
-ghost use Rattle.std.specs.Prelude.{◌≡◌, ℕ, List, map, option_map, true, false, Some};
+ghost use Rattle.std.specs.Prelude.{◌≡◌, ◌<◌, ℕ, List, [], get_or, length, map, option_map, true, false, Some};
 ghost use Rattle.run_types.specs.Message.{Message};
 ghost use Rattle.run_types.specs.Tables.{Each, Pair};
 ghost use Rattle.run_types.specs.declared.types.Label.{Label};
@@ -9,17 +9,17 @@ ghost use Rattle.pool_relation.specs.Transition.{transition};
 ghost use Rattle.reachability.specs.Search.{IsInOrder, IsFaulty};
 ghost use Rattle.search_laws.specs.Stubborn.{IsAwaited, is_served};
 ghost use Rattle.stepper_objects.specs.ObjectStates.{thing_object};
-ghost use Rattle.pool_semantics.specs.Mails.{message_of};
 ghost use Rattle.known_names.specs.Awaited.{IsFit, is_message_other, is_queue_fit};
 ghost use Rattle.object_moves.specs.Rows.{AreWithin, objects_from};
 ghost use Rattle.object_moves.specs.Tables.{known_states, table_program};
-ghost use Rattle.pool_search.specs.Numbers.{numbered, queue_messages};
+ghost use Rattle.pool_search.specs.Numbers.{AreListed, numbered, queue_messages};
+ghost use Rattle.pool_search.specs.Rows.{row_of};
 ghost use Rattle.std.specs.List.{list_all};
 
 use crate::numbered::{Numbered, Queue};
 use known_names::{OtherNames, awaits, is_fit, is_mail_other, is_serving};
+use mail_numbers::MailLists;
 use object_moves::MoveTable;
-use pool_semantics::Mail;
 use stepper_objects::object_state::ObjectState;
 
 /// The object of this name in a row of state numbers.
@@ -54,12 +54,13 @@ fn are_objects_fit(moves: &MoveTable<'_>, numbers: &[u32], others: OtherNames) -
     true
 }
 
-/// Whether each message has only other names.
-fn are_mails_other(others: OtherNames, mails: &[Mail]) -> bool
-    ensures { result ≡ list_all (is_message_other others.next others.name) (map message_of mails.now) }
+/// Whether each message of the list with this number has only other names.
+fn are_mails_other(others: OtherNames, lists: &MailLists, list: u32) -> bool
+    requires { list < length lists.now }
+    ensures { result ≡ list_all (is_message_other others.next others.name) (get_or lists.now list []) }
 {
-    for mail in mails {
-        if !is_mail_other(others, mail) {
+    for at in 0..lists.count(list) {
+        if !is_mail_other(others, lists.mail(list, at)) {
             return false;
         }
     }
@@ -67,10 +68,17 @@ fn are_mails_other(others: OtherNames, mails: &[Mail]) -> bool
 }
 
 /// Whether the receiver of a queue is the object that is awaited or awaits it, or its messages have only other names.
-fn is_queue_fit(moves: &MoveTable<'_>, numbers: &[u32], others: OtherNames, queue: &Queue) -> bool
-    requires { AreWithin (known_states moves.now) numbers.now }
+fn is_queue_fit(
+    moves: &MoveTable<'_>,
+    lists: &MailLists,
+    numbers: &[u32],
+    others: OtherNames,
+    queue: &Queue,
+) -> bool
+    requires within { AreWithin (known_states moves.now) numbers.now }
+    requires listed { queue.now.mails < length lists.now }
     ensures { result ≡ true → (c : Configuration) → c.objects ≡ objects_from 0 (known_states moves.now) numbers.now
-        → is_queue_fit (table_program moves.now) others.next others.name c queue.now.receiver (map message_of queue.now.mails.items) ≡ true }
+        → is_queue_fit (table_program moves.now) others.next others.name c queue.now.receiver (get_or lists.now queue.now.mails []) ≡ true }
 {
     if queue.receiver == others.name {
         return true;
@@ -80,22 +88,24 @@ fn is_queue_fit(moves: &MoveTable<'_>, numbers: &[u32], others: OtherNames, queu
             return true;
         }
     }
-    are_mails_other(others, queue.mails.as_slice())
+    are_mails_other(others, lists, queue.mails)
 }
 
 /// The same for each queue.
 fn are_queues_fit(
     moves: &MoveTable<'_>,
+    lists: &MailLists,
     numbers: &[u32],
     others: OtherNames,
     queues: &[Queue],
 ) -> bool
-    requires { AreWithin (known_states moves.now) numbers.now }
+    requires within { AreWithin (known_states moves.now) numbers.now }
+    requires listed { AreListed lists.now queues.now }
     ensures { result ≡ true → (c : Configuration) → c.objects ≡ objects_from 0 (known_states moves.now) numbers.now
-        → Each (λ (e : Pair × List Message). is_queue_fit (table_program moves.now) others.next others.name c e.0.1 e.1 ≡ true) (map queue_messages queues.now) }
+        → Each (λ (e : Pair × List Message). is_queue_fit (table_program moves.now) others.next others.name c e.0.1 e.1 ≡ true) (map (queue_messages lists.now) queues.now) }
 {
     for queue in queues {
-        if !is_queue_fit(moves, numbers, others, queue) {
+        if !is_queue_fit(moves, lists, numbers, others, queue) {
             return false;
         }
     }
@@ -104,16 +114,22 @@ fn are_queues_fit(
 
 /// Whether the object is at an `answer` or a `select`, and only objects know its name that wait for it: each of them has
 /// met an error, has finished, or is at a call of it.
-pub fn is_only_awaited(moves: &MoveTable<'_>, entry: &Numbered, object: u32) -> bool
-    requires { AreWithin (known_states moves.now) entry.now.objects.items }
-    ensures { result ≡ true → IsInOrder (numbered (known_states moves.now) entry.now)
-        → (l : Label) (d : Configuration) → is_served object l ≡ true → transition (table_program moves.now) (numbered (known_states moves.now) entry.now) l ≡ Some d
-        → IsAwaited (table_program moves.now) entry.now.next object (numbered (known_states moves.now) entry.now) }
+pub fn is_only_awaited(
+    moves: &MoveTable<'_>,
+    lists: &MailLists,
+    entry: &Numbered<'_>,
+    object: u32,
+) -> bool
+    requires within { AreWithin (known_states moves.now) entry.now.objects.now }
+    requires listed { AreListed lists.now entry.now.queues.now }
+    ensures { result ≡ true → IsInOrder (numbered (known_states moves.now) lists.now (row_of entry.now))
+        → (l : Label) (d : Configuration) → is_served object l ≡ true → transition (table_program moves.now) (numbered (known_states moves.now) lists.now (row_of entry.now)) l ≡ Some d
+        → IsAwaited (table_program moves.now) entry.now.next object (numbered (known_states moves.now) lists.now (row_of entry.now)) }
 {
     if object >= entry.next {
         return false;
     }
-    let Some(thing) = object_at(moves, &entry.objects, object) else {
+    let Some(thing) = object_at(moves, entry.objects, object) else {
         return false;
     };
     if !is_serving(moves.program(), object, thing) {
@@ -123,10 +139,10 @@ pub fn is_only_awaited(moves: &MoveTable<'_>, entry: &Numbered, object: u32) -> 
         next: entry.next,
         name: object,
     };
-    if !are_objects_fit(moves, &entry.objects, others) {
+    if !are_objects_fit(moves, entry.objects, others) {
         return false;
     }
-    are_queues_fit(moves, &entry.objects, others, &entry.queues)
+    are_queues_fit(moves, lists, entry.objects, others, entry.queues)
 }
 
 /// Whether one of these objects has met an error.

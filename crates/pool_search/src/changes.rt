@@ -1,11 +1,13 @@
 //! What labels change, and which names they give to new objects.
 ghost use Rattle.std.specs.Prelude.{◌≡◌, IfSome, OnOk, true};
+ghost use Rattle.label_list.specs.Parts.{labels_of};
 ghost use Rattle.object_moves.specs.Followed.{AreChanged};
 ghost use Rattle.reachability.specs.Search.{in_order, names_next};
 ghost use Rattle.search_laws.specs.Dead.{changes, some_changes};
 ghost use Rattle.search_laws.specs.ClosedBeside.{after_all};
 
 use crate::explored::name_after;
+use label_list::{LabelList, Part};
 use object_moves::push_movers;
 use run_types::Label;
 use std::alloc::AllocError;
@@ -35,12 +37,19 @@ pub fn changes(object: u32, label: &Label) -> bool
     }
 }
 
+/// Whether a transition of this part changes the object.
+fn part_changes(object: u32, part: &Part) -> bool
+    ensures { result ≡ some_changes object (labels_of part.now) }
+{
+    part.times() > 0 && changes(object, &part.label())
+}
+
 /// Whether a transition with one of these labels changes the object.
-pub fn some_changes(object: u32, labels: &[Label]) -> bool
+pub fn some_changes(object: u32, labels: &LabelList) -> bool
     ensures { result ≡ some_changes object labels.now }
 {
-    for label in labels {
-        if changes(object, label) {
+    for part in labels.parts() {
+        if part_changes(object, part) {
             return true;
         }
     }
@@ -48,12 +57,14 @@ pub fn some_changes(object: u32, labels: &[Label]) -> bool
 }
 
 /// Makes `moved` the objects that transitions with these labels change. An error means out of memory.
-pub fn changed_by(labels: &[Label], moved: &mut Vec<u32>) -> Result<(), AllocError>
+pub fn changed_by(labels: &LabelList, moved: &mut Vec<u32>) -> Result<(), AllocError>
     ensures { OnOk result (AreChanged labels.now moved.new.items) }
 {
     moved.clear();
-    for label in labels {
-        push_movers(moved, label)?;
+    for part in labels.parts() {
+        if part.times() > 0 {
+            push_movers(moved, &part.label())?;
+        }
     }
     Ok(())
 }
@@ -70,12 +81,15 @@ fn names_next(next: u32, label: &Label) -> bool
 
 /// The next free name after these labels, if they give new objects the names `first`, `first + 1`, .. in order. None if
 /// they do not, or if no name of 32 bits is left.
-pub fn next_after(first: u32, labels: &[Label]) -> Option<u32>
+pub fn next_after(first: u32, labels: &LabelList) -> Option<u32>
     ensures order { IfSome result (λ _. in_order first labels.now ≡ true) }
     ensures next { IfSome result (λ n. after_all first labels.now ≡ n) }
 {
     let mut next = first;
-    for label in labels {
+    for part in labels.parts() {
+        let Part::Other(label) = part else {
+            continue;
+        };
         if !names_next(next, label) {
             return None;
         }

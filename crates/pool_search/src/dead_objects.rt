@@ -20,6 +20,7 @@ use crate::choices::{Trial, is_asked, later, serves_some};
 use crate::explored::Explored;
 use crate::going_on::Lead;
 use crate::waiters::{Waiter, Waiters};
+use label_list::LabelList;
 use pool_semantics::Plain;
 use run_types::Label;
 use std::alloc::{AllocError, Global};
@@ -36,7 +37,7 @@ impl<'a> Explored<'a> {
         at: u32,
         next: u32,
         label: &Label,
-        made: &mut Vec<Label>,
+        made: &mut LabelList,
     ) -> Result<Trial, AllocError>
         requires fresh { is_spent plain.old ≡ false }
         requires program { program_tree plain.old ≡ searched self.old }
@@ -78,7 +79,7 @@ impl<'a> Explored<'a> {
         label: &Label,
         served: Option<u32>,
         trial: Trial,
-        made: &mut Vec<Label>,
+        made: &mut LabelList,
     ) -> Result<Trial, AllocError>
         requires fresh { is_spent plain.old ≡ false }
         requires program { program_tree plain.old ≡ searched self.old }
@@ -130,7 +131,7 @@ impl<'a> Explored<'a> {
         ensures led { (i : ℕ) → result ≡ Ok (Trial.Led i)
             → OneStaysOn (searched self.old) (entries self.old) waiters.now.list.items object at next (configuration_of plain.old) served i }
     {
-        let mut made = Vec::new(alloc);
+        let mut made = LabelList::make(alloc);
         let mut trial = Trial::Tried;
         for label in labels {
             match self.stays_beside(

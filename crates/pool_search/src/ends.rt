@@ -8,8 +8,9 @@ ghost use Rattle.pool_search.specs.FoundOutcomes.{HasOne, outcome};
 use crate::classifier::{is_faulty, is_stuck};
 use crate::outcomes::{EndKind, Outcome};
 use crate::writings::{item_of, mark_item, same_item};
+use label_list::{LabelList, Part};
 use pool_semantics::Plain;
-use run_types::{Item, Label};
+use run_types::Item;
 use std::alloc::{AllocError, Global};
 use std::collections::HashMap;
 use std::hash::{FoldHasher, Hasher};
@@ -41,11 +42,14 @@ pub fn kind_of(plain: &Plain<'_>) -> EndKind
 }
 
 /// The items that these labels write. An error means out of memory.
-pub fn written_by(alloc: Global, labels: &[Label]) -> Result<Vec<Item>, AllocError>
+pub fn written_by(alloc: Global, labels: &LabelList) -> Result<Vec<Item>, AllocError>
     ensures { IfOk result (λ v. v.items ≡ written labels.now) }
 {
     let mut items = Vec::new(alloc);
-    for label in labels {
+    for part in labels.parts() {
+        let Part::Other(label) = part else {
+            continue;
+        };
         if let Some(item) = item_of(label) {
             items.push(item)?;
         }

@@ -14,6 +14,7 @@ use crate::scope::Keeps;
 use crate::settling::settle_shown;
 use crate::visited::{Entry, Found};
 use crate::waiters::Waiters;
+use label_list::LabelList;
 use pool_semantics::{Plain, Refuse};
 use run_types::Label;
 use std::alloc::{AllocError, Global};
@@ -38,15 +39,15 @@ impl<'a> Explored<'a> {
         at: u32,
         next: u32,
         label: &Label,
-        made: &mut Vec<Label>,
+        made: &mut LabelList,
     ) -> Result<Option<u32>, AllocError>
         requires fresh { is_spent plain.old ≡ false }
         requires program { program_tree plain.old ≡ searched self.old }
         requires exists { at < length (entries self.old) }
         ensures same { entries self.new ≡ entries self.old }
         ensures program { searched self.new ≡ searched self.old }
-        ensures edge { (c : Configuration) → transition (searched self.old) c label.now ≡ Some (configuration_of plain.old) → made.old.items ≡ label.now ∷ []
-            → IfOk result (λ o. IfSome o (λ to. IsEdge (searched self.old) (entries self.old) next c label.now made.new.items to)) }
+        ensures edge { (c : Configuration) → transition (searched self.old) c label.now ≡ Some (configuration_of plain.old) → made.old ≡ label.now ∷ []
+            → IfOk result (λ o. IfSome o (λ to. IsEdge (searched self.old) (entries self.old) next c label.now made.new to)) }
     {
         let Some(after) = name_after(next, label) else {
             return Ok(None);
@@ -68,7 +69,7 @@ impl<'a> Explored<'a> {
         at: u32,
         next: u32,
         label: &Label,
-        made: &mut Vec<Label>,
+        made: &mut LabelList,
     ) -> Result<Lead, AllocError>
         requires fresh { is_spent plain.old ≡ false }
         requires program { program_tree plain.old ≡ searched self.old }
@@ -79,7 +80,7 @@ impl<'a> Explored<'a> {
         ensures same_program { OnOk result (program_tree plain.new ≡ program_tree plain.old) }
         ensures fresh { OnOk result (is_spent plain.new ≡ false) }
         ensures nowhere { result ≡ Ok Lead.Nowhere → transition (searched self.old) (configuration_of plain.old) label.now ≡ None }
-        ensures edge { (to : ℕ) → result ≡ Ok (Lead.To to) → IsEdge (searched self.old) (entries self.old) next (configuration_of plain.old) label.now made.new.items to }
+        ensures edge { (to : ℕ) → result ≡ Ok (Lead.To to) → IsEdge (searched self.old) (entries self.old) next (configuration_of plain.old) label.now made.new to }
     {
         match plain.apply(label) {
             Ok(()) => {}
@@ -87,7 +88,7 @@ impl<'a> Explored<'a> {
             Err(Refuse::Memory) => return Err(AllocError),
         }
         made.clear();
-        made.push(*label)?;
+        made.push(label)?;
         let to = self.settle_and_find(plain, at, next, label, made)?;
         *plain = self.kept.configuration(at as usize)?;
         match to {
@@ -162,7 +163,7 @@ impl<'a> Explored<'a> {
     {
         let next = self.kept.next_name(at as usize);
         let mut plain = self.kept.configuration(at as usize)?;
-        let mut made = Vec::new(alloc);
+        let mut made = LabelList::make(alloc);
         match self.lead(&mut plain, at, next, label, &mut made) {
             Ok(Lead::To(to)) => {
                 changed_by(&made, moved)?;

@@ -79,7 +79,11 @@ impl Hints {
 
     /// The names below 64, as bits, that some object knows which neither has the name nor awaits it. An error means out of
     /// memory.
-    pub fn known(&mut self, moves: &MoveTable<'_>, entry: &Numbered) -> Result<u64, AllocError> {
+    pub fn known(
+        &mut self,
+        moves: &MoveTable<'_>,
+        entry: &Numbered<'_>,
+    ) -> Result<u64, AllocError> {
         let mut known = 0;
         let mut own: u64 = 1;
         for (i, number) in entry.objects.iter().enumerate() {

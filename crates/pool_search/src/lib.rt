@@ -1,6 +1,6 @@
 //! Searches all runs of a program, breadth first, for one that gets stuck or meets a run-time error.
 //!
-//! Stores each configuration once, with each object as the number of its state.
+//! Stores each configuration once, with each object as the number of its state, and its messages by number.
 //!
 //! Does not know: files, sinks and the text of answers.
 #![tactic(auto)]
@@ -15,6 +15,7 @@ mod equality;
 mod explored;
 mod going_on;
 mod hints;
+mod kept_rows;
 mod labelling;
 mod made;
 mod numbered;

@@ -8,13 +8,14 @@ ghost use Rattle.stepper_objects.specs.ObjectStates.{things};
 ghost use Rattle.pool_semantics.specs.Mails.{posts};
 ghost use Rattle.object_moves.specs.Tables.{known_states, table_program};
 ghost use Rattle.object_moves.specs.Rows.{objects_from};
-ghost use Rattle.pool_search.specs.Numbers.{AreNamedFrom, queue_messages};
+ghost use Rattle.pool_search.specs.Numbers.{AreListed, AreNamedFrom, queue_messages};
 
 use crate::numbered::Queue;
+use mail_numbers::MailLists;
+use message_queue::{Mail, MessageQueue};
 use object_moves::MoveTable;
-use pool_semantics::Mail;
 use std::alloc::{AllocError, Global};
-use std::collections::{BTreeMap, VecDeque};
+use std::collections::BTreeMap;
 use stepper_objects::object_state::ObjectState;
 
 /// The numbers of the states of these objects; new states are added to the table.
@@ -44,32 +45,38 @@ pub fn numbers_of<'a>(
     Ok(Some(numbers))
 }
 
-fn mails_of(alloc: Global, queue: &VecDeque<Mail>) -> Result<Vec<Mail>, AllocError>
-    ensures { IfOk result (λ v. v.items ≡ queue.now.items) }
+fn mails_of(alloc: Global, queue: &MessageQueue) -> Result<Vec<Mail>, AllocError>
+    ensures { IfOk result (λ v. v.items ≡ queue.now) }
 {
-    let (front, back) = queue.as_slices();
-    let mut mails = Vec::with_capacity(alloc, queue.len())?;
-    mails.extend_from_slice(front)?;
-    mails.extend_from_slice(back)?;
+    let mut mails = Vec::new(alloc);
+    queue.push_to(&mut mails)?;
     Ok(mails)
 }
 
-/// The queues of these messages, in the order of their pairs. An error means out of memory.
+/// The queues of these messages, in the order of their pairs; new lists of messages are added to the table. None if the table
+/// is full. An error means out of memory, or an error of `MailLists::number_of`.
 pub fn queues_of(
     alloc: Global,
-    messages: &BTreeMap<(u32, u32), VecDeque<Mail>>,
-) -> Result<Vec<Queue>, AllocError>
-    ensures queues { IfOk result (λ qs. map queue_messages qs.items ≡ posts messages.now.entries) }
-    ensures sorted { IfOk result (λ qs. IsTrue (is_sorted pair_cmp (posts messages.now.entries))) }
+    table: &mut MailLists,
+    messages: &BTreeMap<(u32, u32), MessageQueue>,
+) -> Result<Option<Vec<Queue>>, AllocError>
+    ensures grows { take (length table.old) table.new ≡ table.old }
+    ensures listed { IfOk result (λ o. IfSome o (λ qs. AreListed table.new qs.items)) }
+    ensures queues { IfOk result (λ o. IfSome o (λ qs. map (queue_messages table.new) qs.items ≡ posts messages.now.entries)) }
+    ensures sorted { IfOk result (λ o. IsTrue (is_sorted pair_cmp (posts messages.now.entries))) }
+    ensures full { result ≡ Ok None → 2 ^ 32 ≤ length table.new }
 {
     let mut queues = Vec::with_capacity(alloc, messages.len())?;
     for (pair, queue) in messages.iter() {
         let mails = mails_of(alloc, queue)?;
-        queues.push(Queue {
-            sender: pair.0,
-            receiver: pair.1,
-            mails,
-        })?;
+        match table.number_of(mails.as_slice())? {
+            Some(mails) => queues.push(Queue {
+                sender: pair.0,
+                receiver: pair.1,
+                mails,
+            })?,
+            None => return Ok(None),
+        }
     }
-    Ok(queues)
+    Ok(Some(queues))
 }

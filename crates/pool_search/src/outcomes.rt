@@ -1,7 +1,5 @@
 //! All outcomes of a program: what its runs write until they end, and how they end.
 ghost use Rattle.std.specs.Prelude.{◌≡◌, ◌<◌, ◌≤◌, ◌+◌, ◌⊎◌, ◌++◌, ◌∷◌, ℕ, List, [], Ok, Some, length, slice_get, IfOk, IfSome, OnOk, true, false};
-ghost use Rattle.std.specs.Global.{Global};
-ghost use Rattle.std.specs.declared.vec.Vec.{Vec};
 ghost use Rattle.run_types.specs.Tables.{Each};
 ghost use Rattle.run_types.specs.declared.types.Label.{Label};
 ghost use Rattle.pool_syntax.specs.TreeOf.{program_of};
@@ -24,8 +22,9 @@ use crate::retracing::{retrace, way_to};
 use crate::scope::{Keeps, Scope};
 use crate::searching::begin;
 use class_check::Checked;
+use label_list::LabelList;
 use pool_semantics::Plain;
-use run_types::{Item, Label};
+use run_types::Item;
 use std::alloc::{AllocError, Global};
 
 /// How a run ends. The first of these that applies is its kind.
@@ -63,10 +62,7 @@ pub struct Outcomes {
 #[derive(Drop)]
 pub enum OutcomeRun {
     /// The outcome, and the labels of a run with this outcome. The first object has the name 0.
-    Shown {
-        outcome: Outcome,
-        labels: Vec<Label>,
-    },
+    Shown { outcome: Outcome, labels: LabelList },
     /// The list of outcomes is complete, and this one is not in it. The number of configurations that the search kept.
     Finite(u32),
     /// The search met a bound. The number of configurations that it kept, but at most `most`.
@@ -213,12 +209,12 @@ fn outcome_after(
     alloc: Global,
     plain: &mut Plain<'_>,
     way: &[u32],
-    labels: &mut Vec<Label>,
+    labels: &mut LabelList,
 ) -> Result<Option<Outcome>, AllocError>
     requires fresh { is_spent plain.old ≡ false }
     requires start { start (program_tree plain.old) 0 ≡ Some (configuration_of plain.old) }
-    requires none { labels.old.items ≡ [] }
-    ensures { IfOk result (λ r. IfSome r (λ o. IsRunOf (program_tree plain.old) o labels.new.items)) }
+    requires none { labels.old ≡ [] }
+    ensures { IfOk result (λ r. IfSome r (λ o. IsRunOf (program_tree plain.old) o labels.new)) }
 {
     if !retrace(alloc, plain, Keeps::Writes, way, labels)? {
         return Ok(None);
@@ -243,7 +239,7 @@ fn show_run(
     ensures { IfOk result (λ r. IfSome r (λ s. IsShownRun (program_of program.now.program.now) s)) }
 {
     let mut plain = Plain::make(alloc, program, 0)?;
-    let mut labels = Vec::new(alloc);
+    let mut labels = LabelList::make(alloc);
     match outcome_after(alloc, &mut plain, way, &mut labels)? {
         Some(outcome) => Ok(Some(OutcomeRun::Shown { outcome, labels })),
         None => Ok(None),
@@ -262,7 +258,7 @@ fn run_at(
     place: u32,
 ) -> Result<OutcomeRun, AllocError>
     requires { whole ≡ true → HasAllOutcomes (program_of program.now.program.now) ends.now.list.items }
-    ensures shown { IfOk result (λ r. (o : OneOutcome) (ls : Vec Label Global) → r ≡ OutcomeRun.Shown o ls → IsRunOf (program_of program.now.program.now) o ls.items) }
+    ensures shown { IfOk result (λ r. (o : OneOutcome) (ls : List Label) → r ≡ OutcomeRun.Shown o ls → IsRunOf (program_of program.now.program.now) o ls) }
     ensures finite { IfOk result (λ r. (k : ℕ) → r ≡ OutcomeRun.Finite k → (os : List OneOutcome) × HasAllOutcomes (program_of program.now.program.now) os × (length os ≤ place)) }
     ensures within { IfOk result (λ r. (k : ℕ) → (r ≡ OutcomeRun.Finite k) ⊎ (r ≡ OutcomeRun.Over k) → k ≤ most) }
 {
@@ -293,7 +289,7 @@ pub fn outcome_run<P: Progress>(
     place: u32,
     progress: &mut P,
 ) -> Result<OutcomeRun, AllocError>
-    ensures shown { IfOk result (λ r. (o : OneOutcome) (ls : Vec Label Global) → r ≡ OutcomeRun.Shown o ls → IsRunOf (program_of program.now.program.now) o ls.items) }
+    ensures shown { IfOk result (λ r. (o : OneOutcome) (ls : List Label) → r ≡ OutcomeRun.Shown o ls → IsRunOf (program_of program.now.program.now) o ls) }
     ensures finite { IfOk result (λ r. (k : ℕ) → r ≡ OutcomeRun.Finite k → (os : List OneOutcome) × HasAllOutcomes (program_of program.now.program.now) os × (length os ≤ place)) }
     ensures within { IfOk result (λ r. (k : ℕ) → (r ≡ OutcomeRun.Finite k) ⊎ (r ≡ OutcomeRun.Over k) → k ≤ most) }
 {

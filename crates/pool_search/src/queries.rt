@@ -1,5 +1,5 @@
 //! Queries of a search, and their results.
-use run_types::Label;
+use label_list::LabelList;
 use std::alloc::Global;
 
 /// The kind of run that a search looks for.
@@ -28,12 +28,12 @@ pub struct Query {
 pub enum SearchResult {
     /// The labels of a run that gets stuck where no label is possible. They begin at the start, and the first object has
     /// the name 0.
-    Stuck(Vec<Label>),
+    Stuck(LabelList),
     /// The labels of a run, in the same form, and the dead objects after it. There is at least one. Other objects can go
     /// on.
-    Dead { labels: Vec<Label>, names: Vec<u32> },
+    Dead { labels: LabelList, names: Vec<u32> },
     /// The labels of a run that meets a run-time error, in the same form.
-    Fault(Vec<Label>),
+    Fault(LabelList),
     /// There is no such run. The number of configurations that the search kept.
     Finite(u32),
     /// Unknown, because the search met a bound. The number of configurations that it kept, but at most `most`.

@@ -7,14 +7,15 @@ ghost use Rattle.stepper_objects.specs.ObjectStates.{things};
 ghost use Rattle.pool_semantics.specs.Mails.{posts};
 ghost use Rattle.object_moves.specs.Tables.{known_states};
 ghost use Rattle.object_moves.specs.Rows.{objects_from};
-ghost use Rattle.pool_search.specs.Numbers.{queue_messages};
+ghost use Rattle.pool_search.specs.Numbers.{AreListed, queue_messages};
 
 use crate::numbered::Queue;
+use mail_numbers::MailLists;
+use message_queue::MessageQueue;
 use object_moves::MoveTable;
-use pool_semantics::Mail;
 use search_states::copy;
 use std::alloc::{AllocError, Global};
-use std::collections::{BTreeMap, VecDeque};
+use std::collections::BTreeMap;
 use stepper_objects::object_state::ObjectState;
 
 /// Copies of the objects with these state numbers, under the names 0, 1, 2, .. Requires that the table has each number.
@@ -40,28 +41,22 @@ pub fn objects_at<'a>(
     Ok(objects)
 }
 
-fn queue_at(alloc: Global, mails: &[Mail]) -> Result<VecDeque<Mail>, AllocError>
-    ensures { IfOk result (λ q. q.items ≡ mails.now) }
-{
-    let mut queue = VecDeque::new(alloc);
-    for mail in mails {
-        queue.push_back(*mail)?;
-    }
-    Ok(queue)
-}
-
-/// The messages of these queues. Requires that the queues are
+/// The messages of these queues. Requires that the table has their lists, and that the queues are
 /// in the order of their pairs. An error means out of memory.
 pub fn messages_at(
     alloc: Global,
+    table: &MailLists,
     queues: &[Queue],
-) -> Result<BTreeMap<(u32, u32), VecDeque<Mail>>, AllocError>
-    requires { IsTrue (is_sorted pair_cmp (map queue_messages queues.now)) }
-    ensures { IfOk result (λ m. posts m.entries ≡ map queue_messages queues.now) }
+) -> Result<BTreeMap<(u32, u32), MessageQueue>, AllocError>
+    requires listed { AreListed table.now queues.now }
+    requires sorted { IsTrue (is_sorted pair_cmp (map (queue_messages table.now) queues.now)) }
+    ensures { IfOk result (λ m. posts m.entries ≡ map (queue_messages table.now) queues.now) }
 {
     let mut messages = BTreeMap::new(alloc);
+    let mut list = Vec::new(alloc);
     for queue in queues {
-        let mails = queue_at(alloc, queue.mails.as_slice())?;
+        table.read(queue.mails, &mut list)?;
+        let mails = MessageQueue::of(alloc, list.as_slice())?;
         messages.insert((queue.sender, queue.receiver), mails)?;
     }
     Ok(messages)

@@ -13,6 +13,7 @@ use crate::queries::{Query, SearchResult};
 use crate::scope::Keeps;
 use crate::settling::settle_shown;
 use class_check::Checked;
+use label_list::LabelList;
 use pool_semantics::{Plain, Refuse};
 use run_types::Label;
 use std::alloc::{AllocError, Global};
@@ -41,20 +42,20 @@ fn pass(
     plain: &mut Plain<'_>,
     keeps: Keeps,
     label: &Label,
-    shown: &mut Vec<Label>,
+    shown: &mut LabelList,
 ) -> Result<bool, AllocError>
     requires { is_spent plain.old ≡ false }
     ensures program { program_tree plain.new ≡ program_tree plain.old }
     ensures fresh { IfOk result (λ _. is_spent plain.new ≡ false) }
-    ensures leads { IfOk result (λ _. (c : Configuration) → run (program_tree plain.old) c shown.old.items ≡ Some (configuration_of plain.old)
-        → run (program_tree plain.old) c shown.new.items ≡ Some (configuration_of plain.new)) }
+    ensures leads { IfOk result (λ _. (c : Configuration) → run (program_tree plain.old) c shown.old ≡ Some (configuration_of plain.old)
+        → run (program_tree plain.old) c shown.new ≡ Some (configuration_of plain.new)) }
 {
     match plain.apply(label) {
         Ok(()) => {}
         Err(Refuse::NotPossible { .. }) => return Ok(false),
         Err(Refuse::Memory) => return Err(AllocError),
     }
-    shown.push(*label)?;
+    shown.push(label)?;
     settle_shown(plain, keeps, shown)
 }
 
@@ -66,13 +67,13 @@ fn pass_at(
     keeps: Keeps,
     next: u32,
     place: u32,
-    shown: &mut Vec<Label>,
+    shown: &mut LabelList,
 ) -> Result<Option<u32>, AllocError>
     requires { is_spent plain.old ≡ false }
     ensures program { program_tree plain.new ≡ program_tree plain.old }
     ensures fresh { IfOk result (λ _. is_spent plain.new ≡ false) }
-    ensures leads { IfOk result (λ _. (c : Configuration) → run (program_tree plain.old) c shown.old.items ≡ Some (configuration_of plain.old)
-        → run (program_tree plain.old) c shown.new.items ≡ Some (configuration_of plain.new)) }
+    ensures leads { IfOk result (λ _. (c : Configuration) → run (program_tree plain.old) c shown.old ≡ Some (configuration_of plain.old)
+        → run (program_tree plain.old) c shown.new ≡ Some (configuration_of plain.new)) }
 {
     let mut labels = Vec::new(alloc);
     plain.labels(next, &mut labels)?;
@@ -92,13 +93,13 @@ pub fn retrace(
     plain: &mut Plain<'_>,
     keeps: Keeps,
     way: &[u32],
-    shown: &mut Vec<Label>,
+    shown: &mut LabelList,
 ) -> Result<bool, AllocError>
     requires { is_spent plain.old ≡ false }
     ensures program { program_tree plain.new ≡ program_tree plain.old }
     ensures fresh { IfOk result (λ _. is_spent plain.new ≡ false) }
-    ensures leads { IfOk result (λ _. (c : Configuration) → run (program_tree plain.old) c shown.old.items ≡ Some (configuration_of plain.old)
-        → run (program_tree plain.old) c shown.new.items ≡ Some (configuration_of plain.new)) }
+    ensures leads { IfOk result (λ _. (c : Configuration) → run (program_tree plain.old) c shown.old ≡ Some (configuration_of plain.old)
+        → run (program_tree plain.old) c shown.new ≡ Some (configuration_of plain.new)) }
 {
     if !settle_shown(plain, keeps, shown)? {
         return Ok(false);
@@ -125,7 +126,7 @@ pub fn show(
     ensures { IfOk result (λ r. IfSome r (λ f. IsAnswer (program_of program.now.program.now) question.now f)) }
 {
     let mut plain = Plain::make(alloc, program, 0)?;
-    let mut shown = Vec::new(alloc);
+    let mut shown = LabelList::make(alloc);
     if !retrace(alloc, &mut plain, Keeps::States, way, &mut shown)? {
         return Ok(None);
     }

@@ -1,5 +1,5 @@
 //! The breadth-first search.
-ghost use Rattle.std.specs.Prelude.{◌≡◌, ◌<◌, ◌≤◌, ◌∷◌, ℕ, [], Ok, Some, IfOk, IfSome, length, true, false};
+ghost use Rattle.std.specs.Prelude.{◌≡◌, ◌<◌, ◌≤◌, ◌∷◌, ℕ, List, [], Ok, Some, IfOk, IfSome, length, true, false};
 ghost use Rattle.std.specs.Global.{Global};
 ghost use Rattle.std.specs.declared.vec.Vec.{Vec};
 ghost use Rattle.pool_syntax.specs.TreeOf.{program_of};
@@ -22,8 +22,8 @@ use crate::retracing::{retrace, show, way_to};
 use crate::scope::{Keeps, Scope};
 use crate::waiters::Waiters;
 use class_check::Checked;
+use label_list::LabelList;
 use pool_semantics::Plain;
-use run_types::Label;
 use std::alloc::{AllocError, Global};
 
 /// Settles the start and keeps it in this empty set. `false` if a bound is met. An error means out of memory.
@@ -57,12 +57,12 @@ fn dead_after<'a>(
     waiters: &Waiters,
     at: u32,
     plain: &mut Plain<'a>,
-    labels: &mut Vec<Label>,
+    labels: &mut LabelList,
 ) -> Result<Option<Vec<u32>>, AllocError>
     requires exists { at < length (entries explored.old) }
     requires fresh { is_spent plain.old ≡ false }
     requires start { start (program_tree plain.old) 0 ≡ Some (configuration_of plain.old) }
-    requires none { labels.old.items ≡ [] }
+    requires none { labels.old ≡ [] }
     requires program { searched explored.old ≡ program_tree plain.old }
     requires in_order { AllInOrder (entries explored.old) }
     ensures { IfOk result (λ r. IfSome r (λ names. (q : Query) → wants_stuck q.wanted ≡ true → IsAnswer (program_tree plain.old) q (SearchResult.Dead labels.new names))) }
@@ -102,7 +102,7 @@ fn show_dead<'a>(
         return Ok(None);
     }
     let mut plain = Plain::make(alloc, program, 0)?;
-    let mut labels = Vec::new(alloc);
+    let mut labels = LabelList::make(alloc);
     match dead_after(alloc, explored, waiters, at, &mut plain, &mut labels)? {
         Some(names) => Ok(Some(SearchResult::Dead { labels, names })),
         None => Ok(None),
@@ -189,11 +189,11 @@ pub fn search<P: Progress>(
     question: &Query,
     progress: &mut P,
 ) -> Result<SearchResult, AllocError>
-    ensures stuck { (ls : Vec Label Global) → result ≡ Ok (SearchResult.Stuck ls)
-        → LeadsInOrder (program_of program.now.program.now) ls.items (IsWantedEnd (program_of program.now.program.now) question.now) }
-    ensures dead { (ls : Vec Label Global) (names : Vec ℕ Global) → result ≡ Ok (SearchResult.Dead ls names)
-        → LeadsInOrder (program_of program.now.program.now) ls.items (IsWantedDead (program_of program.now.program.now) question.now names.items) }
-    ensures fault { (ls : Vec Label Global) → result ≡ Ok (SearchResult.Fault ls) → LeadsInOrder (program_of program.now.program.now) ls.items (IsShownFault (program_of program.now.program.now) question.now) }
+    ensures stuck { (ls : List Label) → result ≡ Ok (SearchResult.Stuck ls)
+        → LeadsInOrder (program_of program.now.program.now) ls (IsWantedEnd (program_of program.now.program.now) question.now) }
+    ensures dead { (ls : List Label) (names : Vec ℕ Global) → result ≡ Ok (SearchResult.Dead ls names)
+        → LeadsInOrder (program_of program.now.program.now) ls (IsWantedDead (program_of program.now.program.now) question.now names.items) }
+    ensures fault { (ls : List Label) → result ≡ Ok (SearchResult.Fault ls) → LeadsInOrder (program_of program.now.program.now) ls (IsShownFault (program_of program.now.program.now) question.now) }
     ensures finite { (k : ℕ) → result ≡ Ok (SearchResult.Finite k) → IsFinite (program_of program.now.program.now) question.now k }
     ensures over { (k : ℕ) → result ≡ Ok (SearchResult.Over k) → k ≤ question.now.most }
 {

@@ -8,7 +8,8 @@ ghost use Rattle.search_laws.specs.Tried.{Follows};
 ghost use Rattle.pool_search.specs.Courses.{all_followed, course_of};
 
 use crate::scope::Keeps;
-use pool_semantics::{Plain, Refuse};
+use label_list::LabelList;
+use pool_semantics::{Plain, Refuse, agent};
 use run_types::Label;
 use std::alloc::AllocError;
 
@@ -27,9 +28,26 @@ fn to_follow(plain: &Plain<'_>, keeps: Keeps) -> Option<Label>
     }
 }
 
-/// Makes one transition that the search follows, and returns its
-/// label. None if there is none. An error means out of memory.
-fn settle_once(plain: &mut Plain<'_>, keeps: Keeps) -> Result<Option<Label>, AllocError>
+/// Makes the local transition of this object, and returns its label. None if the object can make none; then nothing
+/// changes. An error means out of memory.
+fn go_on_alone(plain: &mut Plain<'_>, object: u32) -> Result<Option<Label>, AllocError>
+    requires { is_spent plain.old ≡ false }
+    ensures program { program_tree plain.new ≡ program_tree plain.old }
+    ensures fresh { IfOk result (λ _. is_spent plain.new ≡ false) }
+    ensures made { IfOk result (λ r. IfSome r (λ l. (l ≡ OneLabel.Local object) × (transition (program_tree plain.old) (configuration_of plain.old) l ≡ Some (configuration_of plain.new)))) }
+    ensures same { IfOk result (λ r. IfNone r (configuration_of plain.new ≡ configuration_of plain.old)) }
+{
+    let label = Label::Local { object };
+    match plain.apply(&label) {
+        Ok(()) => Ok(Some(label)),
+        Err(Refuse::NotPossible { .. }) => Ok(None),
+        Err(Refuse::Memory) => Err(AllocError),
+    }
+}
+
+/// Makes one transition that the search follows, and returns its label: the local one of the object `last`, if it can make
+/// one, so that a chain of them looks at no other object. None if there is none. An error means out of memory.
+fn settle_once(plain: &mut Plain<'_>, keeps: Keeps, last: u32) -> Result<Option<Label>, AllocError>
     requires { is_spent plain.old ≡ false }
     ensures program { program_tree plain.new ≡ program_tree plain.old }
     ensures fresh { IfOk result (λ _. is_spent plain.new ≡ false) }
@@ -37,6 +55,11 @@ fn settle_once(plain: &mut Plain<'_>, keeps: Keeps) -> Result<Option<Label>, All
     ensures made { IfOk result (λ r. IfSome r (λ l. transition (program_tree plain.old) (configuration_of plain.old) l ≡ Some (configuration_of plain.new))) }
     ensures same { IfOk result (λ r. IfNone r (configuration_of plain.new ≡ configuration_of plain.old)) }
 {
+    match go_on_alone(plain, last) {
+        Ok(None) => {}
+        Ok(Some(label)) => return Ok(Some(label)),
+        Err(_) => return Err(AllocError),
+    }
     let Some(label) = to_follow(plain, keeps) else {
         return Ok(None);
     };
@@ -55,9 +78,10 @@ pub fn settle(plain: &mut Plain<'_>, keeps: Keeps) -> Result<bool, AllocError>
     ensures fresh { IfOk result (λ _. is_spent plain.new ≡ false) }
     ensures follows { IfOk result (λ _. Follows (program_tree plain.old) (course_of keeps) (configuration_of plain.old) (configuration_of plain.new)) }
 {
+    let mut last = 0;
     for _made in 0..SETTLE {
-        match settle_once(plain, keeps) {
-            Ok(Some(_)) => {}
+        match settle_once(plain, keeps, last) {
+            Ok(Some(label)) => last = agent(&label),
             Ok(None) => return Ok(true),
             Err(_) => return Err(AllocError),
         }
@@ -69,18 +93,22 @@ pub fn settle(plain: &mut Plain<'_>, keeps: Keeps) -> Result<bool, AllocError>
 pub fn settle_shown(
     plain: &mut Plain<'_>,
     keeps: Keeps,
-    shown: &mut Vec<Label>,
+    shown: &mut LabelList,
 ) -> Result<bool, AllocError>
     requires { is_spent plain.old ≡ false }
     ensures program { program_tree plain.new ≡ program_tree plain.old }
     ensures fresh { IfOk result (λ _. is_spent plain.new ≡ false) }
-    ensures leads { IfOk result (λ _. (c : Configuration) → run (program_tree plain.old) c shown.old.items ≡ Some (configuration_of plain.old)
-        → run (program_tree plain.old) c shown.new.items ≡ Some (configuration_of plain.new)) }
-    ensures followed { IfOk result (λ _. (added : List OneLabel) × (shown.new.items ≡ shown.old.items ++ added) × (all_followed (course_of keeps) added ≡ true)) }
+    ensures leads { IfOk result (λ _. (c : Configuration) → run (program_tree plain.old) c shown.old ≡ Some (configuration_of plain.old)
+        → run (program_tree plain.old) c shown.new ≡ Some (configuration_of plain.new)) }
+    ensures followed { IfOk result (λ _. (added : List OneLabel) × (shown.new ≡ shown.old ++ added) × (all_followed (course_of keeps) added ≡ true)) }
 {
+    let mut last = 0;
     for _made in 0..SETTLE {
-        match settle_once(plain, keeps) {
-            Ok(Some(label)) => shown.push(label)?,
+        match settle_once(plain, keeps, last) {
+            Ok(Some(label)) => {
+                last = agent(&label);
+                shown.push(&label)?;
+            }
             Ok(None) => return Ok(true),
             Err(_) => return Err(AllocError),
         }

@@ -8,13 +8,16 @@ ghost use Rattle.pool_search.specs.WritingsOf.{lists_of};
 use crate::awaited::{has_error, is_only_awaited};
 use crate::equality::{mark, same_numbered};
 use crate::hints::Hints;
+use crate::kept_rows::Rows;
 use crate::labelling::push_to_try;
 use crate::made::{numbers_of, queues_of};
-use crate::numbered::Numbered;
+use crate::numbered::{Numbered, Queue};
 use crate::restored::{messages_at, objects_at};
 use crate::scope::Keeps;
 use crate::waiters::Waiters;
 use crate::writings::Writings;
+use mail_numbers::MailLists;
+use message_queue::MessageQueue;
 use object_moves::{Lead, MoveTable};
 use pool_semantics::{Plain, State};
 use pool_syntax::Program;
@@ -43,23 +46,24 @@ pub enum Found {
     At(Entry),
 }
 
-/// Configurations of one program, each with its next free name and what was written. `latest` has the last one of each
-/// hash.
-/// At most 2^32 configurations and 2^32 - 1 object states fit. A
-/// configuration can be in the set twice after a collision of hashes.
+/// Configurations of one program, each with its next free name and what was written, as a row of numbers: of the states of
+/// its objects, of its lists of messages, and of the list of what was written. `latest` has the last one of each hash.
+/// At most 2^32 configurations, 2^32 - 1 object states and 2^32 lists of messages fit. A
+/// configuration can be in the set twice after a collision of hashes, also of those of messages.
 #[derive(Drop)]
 pub struct VisitedSet<'a> {
     alloc: Global,
     moves: MoveTable<'a>,
     writings: Writings,
-    entries: Vec<Numbered>,
+    mails: MailLists,
+    rows: Rows,
     latest: HashMap<u64, u32>,
-    ghost kept: { All (EntryInvariant (table_program moves) (known_states moves)) entries.items },
-    ghost named: { All (IsNamed (lists_of writings)) entries.items },
+    ghost kept: { All (EntryInvariant (table_program moves) (known_states moves) mails) rows },
+    ghost named: { All (IsNamed (lists_of writings)) rows },
 }
 
 impl<'a> VisitedSet<'a> {
-    ghost use Rattle.std.specs.Prelude.{◌<◌, ◌++◌, List, [], ◌∷◌, ℕ, Ok, None, Some, IfOk, IfSome, get_or, OnOk, OnErr, IsTrue, length, slice_get, true, false};
+    ghost use Rattle.std.specs.Prelude.{◌<◌, ◌++◌, List, [], ◌∷◌, ℕ, Ok, None, Some, IfOk, IfSome, get_or, OnOk, OnErr, IsTrue, length, map, slice_get, true, false};
     ghost use Rattle.std.specs.Ordering.{nat_cmp};
     ghost use Rattle.std.specs.FinMap.Entries.{is_sorted};
     ghost use Rattle.stepper_objects.specs.ObjectStates.{things};
@@ -70,7 +74,10 @@ impl<'a> VisitedSet<'a> {
     ghost use Rattle.run_types.specs.declared.types.Label.{Label as OneLabel};
     ghost use Rattle.search_laws.specs.Stubborn.{IsAwaited, is_served};
     ghost use Rattle.object_moves.specs.Rows.{objects_from};
-    ghost use Rattle.pool_search.specs.Numbers.{AreNamedFrom, passed};
+    ghost use Rattle.pool_search.specs.Numbers.{AreListed, AreNamedFrom, passed, queue_messages};
+    ghost use Rattle.pool_search.specs.Rows.{row_of};
+    ghost use Rattle.run_types.specs.Tables.{pair_cmp};
+    ghost use Rattle.pool_semantics.specs.Mails.{posts};
     ghost use Rattle.pool_relation.specs.Configuration.{Configuration};
     ghost use Rattle.pool_relation.specs.Transition.{transition};
     ghost use Rattle.pool_search.specs.Courses.{course_of};
@@ -100,7 +107,8 @@ impl<'a> VisitedSet<'a> {
             alloc,
             moves: MoveTable::make(alloc, program),
             writings: Writings::make(alloc),
-            entries: Vec::new(alloc),
+            mails: MailLists::make(alloc),
+            rows: Rows::make(alloc),
             latest: HashMap::new(alloc),
         }
     }
@@ -114,7 +122,7 @@ impl<'a> VisitedSet<'a> {
     pub fn len(&self) -> usize
         ensures { result ≡ length (kept_list self.now) }
     {
-        self.entries.len()
+        self.rows.len()
     }
 
     /// The next free name of the configuration at this index.
@@ -122,7 +130,7 @@ impl<'a> VisitedSet<'a> {
         requires { at < length (kept_list self.now) }
         ensures { IfSome (slice_get (kept_list self.now) at) (λ e. result ≡ e.next) }
     {
-        self.entries[at].next
+        self.rows.get(at).next
     }
 
     /// The number of what was written before the configuration at this index.
@@ -131,7 +139,7 @@ impl<'a> VisitedSet<'a> {
         ensures list { IfSome (slice_get (kept_list self.now) at) (λ e. get_or (kept_lists self.now) result [] ≡ e.items) }
         ensures within { result < length (kept_lists self.now) }
     {
-        self.entries[at].written
+        self.rows.get(at).written
     }
 
     /// What was written before the configuration at this index. An error means out of memory.
@@ -139,7 +147,7 @@ impl<'a> VisitedSet<'a> {
         requires { at < length (kept_list self.now) }
         ensures { IfOk result (λ v. IfSome (slice_get (kept_list self.now) at) (λ e. v.items ≡ e.items)) }
     {
-        self.writings.items(self.alloc, self.entries[at].written)
+        self.writings.items(self.alloc, self.rows.get(at).written)
     }
 
     /// The number of a list with the item after it. The list is added unless it was found. None if there are 2^32
@@ -160,9 +168,9 @@ impl<'a> VisitedSet<'a> {
         ensures program { IfOk result (λ s. program_tree s ≡ kept_program self.now) }
         ensures fresh { IfOk result (λ s. is_spent s ≡ false) }
     {
-        let entry = &self.entries[at];
-        let objects = objects_at(self.alloc, &self.moves, entry.objects.as_slice())?;
-        let messages = messages_at(self.alloc, entry.queues.as_slice())?;
+        let entry = self.rows.get(at);
+        let objects = objects_at(self.alloc, &self.moves, entry.objects)?;
+        let messages = messages_at(self.alloc, &self.mails, entry.queues)?;
         Ok(Plain::of(State {
             alloc: self.alloc,
             program: self.moves.program(),
@@ -172,12 +180,15 @@ impl<'a> VisitedSet<'a> {
     }
 
     /// The index of this configuration, if it is the last one of its hash.
-    fn seen(&self, mark: u64, found: &Numbered) -> Option<u32>
-        ensures { IfSome result (λ i. slice_get (kept_list self.now) i ≡ Some (passed (known_states self.now.moves) (kept_lists self.now) found.now)) }
+    fn seen(&self, mark: u64, found: &Numbered<'_>) -> Option<u32>
+        ensures { IfSome result (λ i. slice_get (kept_list self.now) i ≡ Some (passed (known_states self.now.moves) self.now.mails (kept_lists self.now) (row_of found.now))) }
     {
         let at = *self.latest.get(&mark)?;
-        let entry = self.entries.as_slice().get(at as usize)?;
-        if same_numbered(entry, found) {
+        if at as usize >= self.rows.len() {
+            return None;
+        }
+        let entry = self.rows.get(at as usize);
+        if same_numbered(&entry, found) {
             Some(at)
         } else {
             None
@@ -186,21 +197,21 @@ impl<'a> VisitedSet<'a> {
 
     /// Adds a configuration, and returns its index. None if the
     /// set has 2^32 configurations. An error means out of memory.
-    fn add(&mut self, mark: u64, found: Numbered) -> Result<Option<u32>, AllocError>
-        requires kept { EntryInvariant (kept_program self.old) (known_states self.old.moves) found }
-        requires named { IsNamed (kept_lists self.old) found }
-        ensures added { IfOk result (λ o. IfSome o (λ i. (kept_list self.new ≡ kept_list self.old ++ passed (known_states self.old.moves) (kept_lists self.old) found ∷ []) × (i ≡ length (kept_list self.old)))) }
+    fn add(&mut self, mark: u64, found: &Numbered<'_>) -> Result<Option<u32>, AllocError>
+        requires kept { EntryInvariant (kept_program self.old) (known_states self.old.moves) self.old.mails (row_of found.now) }
+        requires named { IsNamed (kept_lists self.old) (row_of found.now) }
+        ensures added { IfOk result (λ o. IfSome o (λ i. (kept_list self.new ≡ kept_list self.old ++ passed (known_states self.old.moves) self.old.mails (kept_lists self.old) (row_of found.now) ∷ []) × (i ≡ length (kept_list self.old)))) }
         ensures none { result ≡ Ok None → kept_list self.new ≡ kept_list self.old }
         ensures full { result ≡ Ok None → IsFull self.new }
         ensures error { OnErr result (kept_list self.new ≡ kept_list self.old) }
         ensures program { kept_program self.new ≡ kept_program self.old }
         ensures lists { kept_lists self.new ≡ kept_lists self.old }
     {
-        let Ok(at) = u32::try_from(self.entries.len()) else {
+        let Ok(at) = u32::try_from(self.rows.len()) else {
             return Ok(None);
         };
         self.latest.insert(mark, at)?;
-        self.entries.push(found)?;
+        self.rows.push(found)?;
         Ok(Some(at))
     }
 
@@ -217,8 +228,27 @@ impl<'a> VisitedSet<'a> {
         ensures objects { IfOk result (λ o. IfSome o (λ v. objects_from 0 (known_states self.new.moves) v.items ≡ things objects.now.entries)) }
         ensures sorted { IfOk result (λ o. IsTrue (is_sorted nat_cmp (things objects.now.entries))) }
         ensures full { result ≡ Ok None → AreNamedFrom 0 (things objects.now.entries) → IsFull self.new }
+        ensures mails { self.new.mails ≡ self.old.mails }
     {
         numbers_of(self.alloc, &mut self.moves, objects)
+    }
+
+    /// The queues of these messages. New lists of messages are added to the table. None if the table is full. An error means
+    /// out of memory, or an error of `MailLists::number_of`.
+    fn queues(
+        &mut self,
+        messages: &BTreeMap<(u32, u32), MessageQueue>,
+    ) -> Result<Option<Vec<Queue>>, AllocError>
+        ensures list { kept_list self.new ≡ kept_list self.old }
+        ensures lists { kept_lists self.new ≡ kept_lists self.old }
+        ensures program { kept_program self.new ≡ kept_program self.old }
+        ensures states { known_states self.new.moves ≡ known_states self.old.moves }
+        ensures listed { IfOk result (λ o. IfSome o (λ qs. AreListed self.new.mails qs.items)) }
+        ensures queues { IfOk result (λ o. IfSome o (λ qs. map (queue_messages self.new.mails) qs.items ≡ posts messages.now.entries)) }
+        ensures sorted { IfOk result (λ o. IsTrue (is_sorted pair_cmp (posts messages.now.entries))) }
+        ensures full { result ≡ Ok None → IsFull self.new }
+    {
+        queues_of(self.alloc, &mut self.mails, messages)
     }
 
     /// The index of a configuration, with what was written. Requires that it is one of the set's program, and the number of
@@ -239,15 +269,17 @@ impl<'a> VisitedSet<'a> {
         ensures found { IfOk result (λ o. IfSome o (λ i. slice_get (kept_list self.old) i ≡ Some (entry next (get_or (kept_lists self.old) written []) (configuration_of plain.now)))) }
     {
         let state = plain.state();
-        let queues = queues_of(self.alloc, &state.messages)?;
+        let Some(queues) = self.queues(&state.messages)? else {
+            return Ok(None);
+        };
         let Some(objects) = self.numbers(&state.objects)? else {
             return Ok(None);
         };
         let found = Numbered {
             next,
             written,
-            objects,
-            queues,
+            objects: objects.as_slice(),
+            queues: queues.as_slice(),
         };
         let mark = mark(&found);
         match self.seen(mark, &found) {
@@ -258,8 +290,9 @@ impl<'a> VisitedSet<'a> {
 
     /// Looks a configuration up, with what was written, and adds it if it was not found. Requires that it is one of the
     /// set's program, and the number of a list.
-    /// None if the set or the table of object states is full, or if the
-    /// objects are not named 0, 1, 2, .. An error means out of memory.
+    /// None if the set, the table of object states or that of lists of messages is full, or if the
+    /// objects are not named 0, 1, 2, .. An error means out of memory, or that no number of 32 bits is left for a message or
+    /// for an item of a list.
     pub fn keep(
         &mut self,
         plain: &Plain<'a>,
@@ -279,20 +312,22 @@ impl<'a> VisitedSet<'a> {
         ensures in_order { OnOk result (IsInOrder (configuration_of plain.now)) }
     {
         let state = plain.state();
-        let queues = queues_of(self.alloc, &state.messages)?;
+        let Some(queues) = self.queues(&state.messages)? else {
+            return Ok(None);
+        };
         let Some(objects) = self.numbers(&state.objects)? else {
             return Ok(None);
         };
         let found = Numbered {
             next,
             written,
-            objects,
-            queues,
+            objects: objects.as_slice(),
+            queues: queues.as_slice(),
         };
         let mark = mark(&found);
         match self.seen(mark, &found) {
             Some(at) => Ok(Some(Entry::Seen(at))),
-            None => match self.add(mark, found)? {
+            None => match self.add(mark, &found)? {
                 Some(at) => Ok(Some(Entry::Added(at))),
                 None => Ok(None),
             },
@@ -304,7 +339,8 @@ impl<'a> VisitedSet<'a> {
         requires { at < length (kept_list self.now) }
         ensures { IfSome (slice_get (kept_list self.now) at) (λ e. OnOk result (into.new.items ≡ into.old.items ++ labels_to_try (kept_program self.now) e.next e.configuration)) }
     {
-        push_to_try(into, &self.moves, &self.entries[at])
+        let entry = self.rows.get(at);
+        push_to_try(into, &self.moves, &self.mails, &entry)
     }
 
     /// Whether only objects that wait for this object know its name, in the configuration at this index.
@@ -314,7 +350,8 @@ impl<'a> VisitedSet<'a> {
             → (l : OneLabel) (d : Configuration) → is_served object l ≡ true → transition (kept_program self.now) e.configuration l ≡ Some d
             → IsAwaited (kept_program self.now) e.next object e.configuration) }
     {
-        is_only_awaited(&self.moves, &self.entries[at], object)
+        let entry = self.rows.get(at);
+        is_only_awaited(&self.moves, &self.mails, &entry, object)
     }
 
     /// The names below 64, as bits, that some object of the configuration at this index knows which neither has the name nor
@@ -322,7 +359,8 @@ impl<'a> VisitedSet<'a> {
     pub fn known(&self, at: usize, hints: &mut Hints) -> Result<u64, AllocError>
         requires { at < length (kept_list self.now) }
     {
-        hints.known(&self.moves, &self.entries[at])
+        let entry = self.rows.get(at);
+        hints.known(&self.moves, &entry)
     }
 
     /// Whether an object has met an error in the configuration at this index.
@@ -330,7 +368,7 @@ impl<'a> VisitedSet<'a> {
         requires { at < length (kept_list self.now) }
         ensures { result ≡ false → IfSome (slice_get (kept_list self.now) at) (λ e. ¬ (IsFaulty e.configuration)) }
     {
-        has_error(&self.moves, self.entries[at].objects.as_slice())
+        has_error(&self.moves, self.rows.get(at).objects)
     }
 
     /// Adds the objects that wait in the configuration at this index, as those of the next entry. `false` if no name of 32
@@ -346,7 +384,7 @@ impl<'a> VisitedSet<'a> {
         ensures none_noted { OnOk result (Each IsOpen waiters.old.list.items → Each IsOpen waiters.new.list.items) }
         ensures all { result ≡ Ok true → IfSome (slice_get (kept_list self.now) at) (λ e. (o : ℕ) → WaitsAt (kept_program self.now) e.configuration o → HasWaiter false entry o waiters.new.list.items) }
     {
-        waiters.add(entry, &self.moves, self.entries[at].objects.as_slice())
+        waiters.add(entry, &self.moves, self.rows.get(at).objects)
     }
 
     /// Looks up where the label leads from the configuration at this index, after transitions that are followed. If that
@@ -379,9 +417,9 @@ impl<'a> VisitedSet<'a> {
             → IfSome (slice_get (kept_list self.old) at) (λ e. (to : Configuration) × IsLedBy (kept_program self.old) (course_of keeps) e.configuration label.now to moved.new.items × IsInOrder to
             × (kept_list self.new ≡ kept_list self.old ++ entry next (get_or (kept_lists self.old) written []) to ∷ []) × (i ≡ length (kept_list self.old))) }
     {
-        let from = &self.entries[at];
-        let mut objects = Vec::from_slice(self.alloc, from.objects.as_slice())?;
-        let mut messages = messages_at(self.alloc, from.queues.as_slice())?;
+        let from = self.rows.get(at);
+        let mut objects = Vec::from_slice(self.alloc, from.objects)?;
+        let mut messages = messages_at(self.alloc, &self.mails, from.queues)?;
         match self
             .moves
             .lead(&mut objects, &mut messages, moved, label, keeps.silent())
@@ -391,12 +429,14 @@ impl<'a> VisitedSet<'a> {
             Ok(Lead::Made) => {}
             Err(_) => return Err(AllocError),
         }
-        let queues = queues_of(self.alloc, &messages)?;
+        let Some(queues) = self.queues(&messages)? else {
+            return Ok(Found::Unknown);
+        };
         let found = Numbered {
             next,
             written,
-            objects,
-            queues,
+            objects: objects.as_slice(),
+            queues: queues.as_slice(),
         };
         let mark = mark(&found);
         match self.seen(mark, &found) {
@@ -405,7 +445,7 @@ impl<'a> VisitedSet<'a> {
                 if !adds {
                     return Ok(Found::Absent);
                 }
-                match self.add(mark, found)? {
+                match self.add(mark, &found)? {
                     Some(at) => Ok(Found::At(Entry::Added(at))),
                     None => Ok(Found::Unknown),
                 }

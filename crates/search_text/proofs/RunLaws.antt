@@ -1,48 +1,43 @@
--- A run of labels from the start, one label at a time.
-use Rattle.std.proofs.Common.{◌≡◌, ◌∙◌, ◌<◌, ◌≤◌, ◌+◌, ℕ, List, ◌∷◌, length, drop, get_or, Option, Some, None, refl, sym, ap}
-use Rattle.std.proofs.lemmas.List.{drop_all, drop_more}
+-- A run of labels from the start, some labels at a time.
+use Rattle.std.proofs.Common.{◌≡◌, ◌∙◌, ◌<◌, ◌+◌, ◌-◌, ℕ, suc, List, [], ◌++◌, replicate, Some, None, refl, sym, ap, arith}
 use Rattle.run_types.specs.declared.types.Label.{Label}
 use Rattle.pool_syntax.specs.Terms.{ProgramTree}
 use Rattle.run_types.specs.Partial.{◌>>=◌}
 use Rattle.pool_relation.specs.Configuration.{Configuration}
 use Rattle.pool_relation.specs.Transition.{run, start, transition}
+use Rattle.pool_relation.proofs.Laws.{joined, none_joined}
 use Rattle.pool_search.specs.SearchTargets.{LeadsTo}
 
--- so many of the labels were made, and the others are left
-pub record IsUnderWay (p : ProgramTree) (ls : List Label) (at : ℕ) (c : Configuration) : Type 0 where
+-- some of the labels were made, and these are left
+pub record IsUnderWay (p : ProgramTree) (ls rest : List Label) (c : Configuration) : Type 0 where
   pub first : Configuration
   pub starts : start p 0 ≡ Some first
-  pub left : run p first ls ≡ run p c (drop at ls)
+  pub left : run p first ls ≡ run p c rest
+
+-- one label of so many, and those that are left
+pub one_of_them : (p : ProgramTree) (c : Configuration) (l : Label) (n at : ℕ) → at < n → run p c (replicate (n - at) l) ≡ (transition p c l >>= λ d. run p d (replicate (n - (at + 1)) l))
+one_of_them p c l n at inside = ap (λ m. run p c (replicate m l)) (let e : n - at ≡ suc (n - (at + 1)) = omega arith in e)
 
 module _ (p : ProgramTree) (ls : List Label) where
-  pub begun : (c : Configuration) → start p 0 ≡ Some c → IsUnderWay p ls 0 c
-  begun c s = record { first = c; starts = s; left = refl }
+  pub begun : (c : Configuration) (rest : List Label) → start p 0 ≡ Some c → rest ≡ ls → IsUnderWay p ls rest c
+  begun c rest s is = record { first = c; starts = s; left = ap (run p c) (sym is) }
 
-  next_left : (at : ℕ) (l : Label) → at < length ls → l ≡ get_or ls at l → drop at ls ≡ l ∷ drop (at + 1) ls
-  next_left at l inside is = drop_more ls at l inside ∙ ap (λ x. x ∷ drop (at + 1) ls) (sym is)
+  pub more_made : (rest ms after : List Label) (c d : Configuration) → rest ≡ ms ++ after → run p c ms ≡ Some d → IsUnderWay p ls rest c → IsUnderWay p ls after d
+  more_made rest ms after c d is made h = record { first = h.first; starts = h.starts; left = h.left ∙ ap (run p c) is ∙ joined p c d ms after made }
 
-  pub one_more : (at : ℕ) (l : Label) (c d : Configuration) → at < length ls → l ≡ get_or ls at l → transition p c l ≡ Some d → IsUnderWay p ls at c → IsUnderWay p ls (at + 1) d
-  one_more at l c d inside is step h = record {
-    first = h.first;
-    starts = h.starts;
-    left = h.left ∙ ap (run p c) (next_left at l inside is) ∙ ap (λ (o : Option Configuration). o >>= λ e. run p e (drop (at + 1) ls)) step;
-  }
-
-  pub is_possible : (P : Configuration → Type 0) (at : ℕ) (l : Label) (c : Configuration) → LeadsTo p ls P → at < length ls → l ≡ get_or ls at l → IsUnderWay p ls at c → transition p c l ≡ None → ⊥
-  is_possible P at l c leads inside is h none =
+  pub is_possible : (P : Configuration → Type 0) (rest ms after : List Label) (c : Configuration) → LeadsTo p ls P → rest ≡ ms ++ after → IsUnderWay p ls rest c → run p c ms ≡ None → ⊥
+  is_possible P rest ms after c leads is h none =
       let firsts : Some leads.first ≡ Some h.first = sym leads.starts ∙ h.starts in
       let first : leads.first ≡ h.first = cc in
-      let ends : Some leads.last ≡ None =
-      sym leads.leads ∙ ap (λ (e : Configuration). run p e ls) first ∙ h.left ∙ ap (run p c) (next_left at l inside is)
-      ∙ ap (λ (o : Option Configuration). o >>= λ e. run p e (drop (at + 1) ls)) none in
+      let ends : Some leads.last ≡ None = sym leads.leads ∙ ap (λ (e : Configuration). run p e ls) first ∙ h.left ∙ ap (run p c) is ∙ none_joined p c ms after none in
       cc
 
-  pub led : (at : ℕ) (c : Configuration) → length ls ≤ at → IsUnderWay p ls at c → LeadsTo p ls (λ d. d ≡ c)
-  led at c over h = record {
+  pub led : (c : Configuration) (rest : List Label) → rest ≡ [] → IsUnderWay p ls rest c → LeadsTo p ls (λ d. d ≡ c)
+  led c rest none h = record {
     first = h.first;
     last = c;
     starts = h.starts;
-    leads = h.left ∙ ap (run p c) (drop_all at ls over);
+    leads = h.left ∙ ap (run p c) none;
     holds = refl;
   }
 

@@ -7,4 +7,4 @@ pub mod ChosenRows
 -- Internal: what it does not.
 pub mod GradedRuns
 pub mod Inquiries
-pub mod LeadingSteps
+pub mod OpenSteps

@@ -5,9 +5,10 @@ ghost use Rattle.search_text.specs.AnswerText.{end_line, fault_text, ending, fin
 ghost use Rattle.wait_report.specs.Calls.{names_of, Rising};
 
 use crate::steps::{other_than_local, push_steps};
+use label_list::LabelList;
 use pool_search::{EndKind, Outcome};
 use record_writer::{push_count, push_item, push_word};
-use run_types::{Item, Label, Names};
+use run_types::{Item, Names};
 use std::alloc::{AllocError, Global};
 use wait_report::{ObjectRow, put_each_cycle};
 use waiting_objects::push_waiting;
@@ -28,7 +29,7 @@ fn push_end(text: &mut Vec<u8>, word: &[u8], count: usize) -> Result<(), AllocEr
 pub fn stuck_text(
     alloc: Global,
     names: &Names,
-    labels: &[Label],
+    labels: &LabelList,
     rows: &[ObjectRow],
 ) -> Result<Vec<u8>, AllocError>
     requires { Rising (names_of rows.now) }
@@ -43,7 +44,7 @@ pub fn stuck_text(
 }
 
 /// The text of a run that meets a run-time error: its steps, and the end line. An error means out of memory.
-pub fn fault_text(alloc: Global, names: &Names, labels: &[Label]) -> Result<Vec<u8>, AllocError>
+pub fn fault_text(alloc: Global, names: &Names, labels: &LabelList) -> Result<Vec<u8>, AllocError>
     ensures { IfOk result (λ text. text.items ≡ fault_text names.now labels.now) }
 {
     let mut text = Vec::new(alloc);
@@ -138,7 +139,7 @@ pub fn run_text(
     alloc: Global,
     names: &Names,
     kind: EndKind,
-    labels: &[Label],
+    labels: &LabelList,
 ) -> Result<Vec<u8>, AllocError>
     ensures { IfOk result (λ text. text.items ≡ run_text names.now kind labels.now) }
 {
@@ -153,7 +154,7 @@ pub fn wrong_text(
     alloc: Global,
     names: &Names,
     outcome: &Outcome,
-    labels: &[Label],
+    labels: &LabelList,
 ) -> Result<Vec<u8>, AllocError>
     ensures { IfOk result (λ text. text.items ≡ wrong_text names.now outcome.now labels.now) }
 {

@@ -13,10 +13,11 @@ use crate::chosen::rows_of;
 use crate::grading::{first_wrong, is_allowed};
 use crate::shown::replay;
 use class_check::Checked;
+use label_list::LabelList;
 use pool_search::{
     OutcomeRun, Outcomes, Progress, Query, SearchResult, all_outcomes, outcome_run, search,
 };
-use run_types::{Label, Names};
+use run_types::Names;
 use std::alloc::{AllocError, Global};
 use waiting_objects::waiting_rows;
 
@@ -62,7 +63,7 @@ fn stuck_answer(
     program: &Checked<'_>,
     names: &Names,
     question: &Query,
-    labels: &[Label],
+    labels: &LabelList,
 ) -> Result<Answer, AllocError>
     requires { LeadsInOrder (program_of program.now.program.now) labels.now (IsWantedEnd (program_of program.now.program.now) question.now) }
     ensures { IfOk result (λ a. Answers names.now (program_of program.now.program.now) question.now a.text.items a.found) }
@@ -82,7 +83,7 @@ fn dead_answer(
     program: &Checked<'_>,
     names: &Names,
     question: &Query,
-    labels: &[Label],
+    labels: &LabelList,
     dead: &[u32],
 ) -> Result<Answer, AllocError>
     requires { LeadsInOrder (program_of program.now.program.now) labels.now (IsWantedDead (program_of program.now.program.now) question.now dead.now) }

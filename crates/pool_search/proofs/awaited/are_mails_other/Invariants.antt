@@ -1,11 +1,10 @@
-use Rattle.std.proofs.Common.{◌≡◌, map, drop}
+use Rattle.std.proofs.Common.{◌≡◌, [], get_or, drop}
 use Rattle.std.specs.List.{list_all}
-use Rattle.pool_semantics.specs.Mails.{message_of}
 use Rattle.known_names.specs.Awaited.{is_message_other}
 use Rattle.pool_search.proofs.awaited.are_mails_other.Given as goal
 
 -- all messages have only other names if those that are left have
-abbrev pub invariant-loop-mail : goal.invariant-loop-mail
-invariant-loop-mail l =
-    list_all (is_message_other l.others.next l.others.name) (map message_of l.mails)
-    ≡ list_all (is_message_other l.others.next l.others.name) (map message_of (drop l.mail-index l.mails))
+abbrev pub invariant-loop-at : goal.invariant-loop-at
+invariant-loop-at l =
+    list_all (is_message_other l.others.next l.others.name) (get_or l.lists l.list [])
+    ≡ list_all (is_message_other l.others.next l.others.name) (drop l.at (get_or l.lists l.list []))

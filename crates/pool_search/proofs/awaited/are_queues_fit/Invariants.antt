@@ -12,5 +12,5 @@ use Rattle.pool_search.proofs.awaited.are_queues_fit.Given as goal
 abbrev pub invariant-loop-queue : goal.invariant-loop-queue
 invariant-loop-queue l =
     (c : Configuration) → c.objects ≡ objects_from 0 (known_states l.moves) l.numbers
-    → Each (λ (e : Pair × List Message). is_queue_fit (table_program l.moves) l.others.next l.others.name c e.0.1 e.1 ≡ true) (map queue_messages (drop l.queue-index l.queues))
-    → Each (λ (e : Pair × List Message). is_queue_fit (table_program l.moves) l.others.next l.others.name c e.0.1 e.1 ≡ true) (map queue_messages l.queues)
+    → Each (λ (e : Pair × List Message). is_queue_fit (table_program l.moves) l.others.next l.others.name c e.0.1 e.1 ≡ true) (map (queue_messages l.lists) (drop l.queue-index l.queues))
+    → Each (λ (e : Pair × List Message). is_queue_fit (table_program l.moves) l.others.next l.others.name c e.0.1 e.1 ≡ true) (map (queue_messages l.lists) l.queues)

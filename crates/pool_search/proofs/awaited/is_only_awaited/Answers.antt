@@ -1,4 +1,4 @@
-use Rattle.std.proofs.Common.{◌≡◌, ◌∙◌, ap, sym, subst, ℕ, List, map, Some, true}
+use Rattle.std.proofs.Common.{◌≡◌, refl, ◌∙◌, ap, sym, subst, ℕ, List, map, Some, true}
 use Rattle.run_types.specs.Message.{Message}
 use Rattle.run_types.specs.Tables.{Each, Pair}
 use Rattle.pool_syntax.specs.Terms.{ProgramTree}
@@ -10,23 +10,21 @@ use Rattle.known_names.proofs.Laws.{only_awaited}
 use Rattle.object_moves.specs.Rows.{AreWithin, objects_from}
 use Rattle.object_moves.specs.Tables.{known_states, table_program}
 use Rattle.pool_search.specs.Numbers.{numbered, queue_messages}
+use Rattle.pool_search.specs.Rows.{row_of}
 use Rattle.pool_search.proofs.awaited.is_only_awaited.Goals as goal
 
 pub returns : goal.returns
 returns c = λ told sorted l d own step.
     let p = table_program c.args.moves.now in
     let xs = known_states c.args.moves.now in
-    let e = c.args.entry.now in
+    let ms = c.args.lists.now in
+    let e = row_of c.args.entry.now in
     let b = c.args.object in
-    let k : Configuration = numbered xs e in
+    let k : Configuration = numbered xs ms e in
     let x : Object = thing_object c.in-Some.thing.now in
-    let there : Some x ≡ object_of k b = c.in-Some.ensures k (ap (objects_from 0 xs) (sym c.deref.ensures.value)) in
+    let there : Some x ≡ object_of k b = c.in-Some.ensures k refl in
     let serving : is_serving p b (object_of k b) ≡ true =
     ap (is_serving p b) (sym there) ∙ ap (λ (q : ProgramTree). is_serving q b (Some x)) (sym c.program.ensures) ∙ sym c.is_serving.ensures ∙ c.if-not-is_serving.false in
-    let objects : Each (λ (i : ℕ × Object). IsFit p e.next b i.0 i.1) k.objects =
-    subst (λ (ns : List ℕ). Each (λ (i : ℕ × Object). IsFit p e.next b i.0 i.1) (objects_from 0 xs ns)) c.deref-2.ensures.value
-    (c.are_objects_fit.ensures c.if-not-are_objects_fit.false (subst (AreWithin xs) (sym c.deref-2.ensures.value) c.requires)) in
-    let queues : Each (λ (i : Pair × List Message). is_queue_fit p e.next b k i.0.1 i.1 ≡ true) k.messages =
-    subst (Each (λ (i : Pair × List Message). is_queue_fit p e.next b k i.0.1 i.1 ≡ true)) (ap (map queue_messages) c.deref-4.ensures.value)
-    (c.are_queues_fit.ensures told k (ap (objects_from 0 xs) (sym c.deref-3.ensures.value))) in
+    let objects : Each (λ (i : ℕ × Object). IsFit p e.next b i.0 i.1) k.objects = c.are_objects_fit.ensures c.if-not-are_objects_fit.false c.requires.within in
+    let queues : Each (λ (i : Pair × List Message). is_queue_fit p e.next b k i.0.1 i.1 ≡ true) k.messages = c.are_queues_fit.ensures told k refl in
     only_awaited p e.next b k c.if-object-entry.false serving objects queues sorted l d own step

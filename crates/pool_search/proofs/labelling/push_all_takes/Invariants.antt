@@ -5,4 +5,4 @@ use Rattle.pool_search.proofs.labelling.push_all_takes.Given as goal
 
 -- the takes so far, with those that are left
 abbrev pub invariant-loop-queue : goal.invariant-loop-queue
-invariant-loop-queue l = l.into.items ++ message_labels (map queue_messages (drop l.queue-index l.queues)) ≡ l.initial.into.items ++ message_labels (map queue_messages l.queues)
+invariant-loop-queue l = l.into.items ++ message_labels (map (queue_messages l.lists) (drop l.queue-index l.queues)) ≡ l.initial.into.items ++ message_labels (map (queue_messages l.lists) l.queues)

@@ -12,7 +12,7 @@ outcome_after-requires-clause-start c =
 
 pub returns-in-Some : goal.returns-in-Some
 returns-in-Some c =
-    let ls = c.outcome_after.new.labels.items in
+    let ls = c.outcome_after.new.labels in
     let o = c.in-Some.outcome in
     subst (λ (q : ProgramTree). IsRunOf q o ls) c.in_ok-plain.ensures.program
     (subst (λ r. IfSome r (λ o. IsRunOf (program_tree c.in_ok-plain.plain) o ls)) c.in-Some.is c.in_ok-outcome.ensures)

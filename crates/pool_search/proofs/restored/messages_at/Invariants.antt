@@ -4,4 +4,4 @@ use Rattle.pool_search.specs.Numbers.{queue_messages}
 use Rattle.pool_search.proofs.restored.messages_at.Given as goal
 
 abbrev pub invariant-loop-queue : goal.invariant-loop-queue
-invariant-loop-queue l = posts l.messages.entries ≡ map queue_messages (take l.queue-index l.queues)
+invariant-loop-queue l = posts l.messages.entries ≡ map (queue_messages l.table) (take l.queue-index l.queues)

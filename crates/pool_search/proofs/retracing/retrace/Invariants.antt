@@ -10,6 +10,6 @@ invariant-loop-place l =
     record {
       program : program_tree l.plain ≡ program_tree l.fn.plain;
       fresh : is_spent l.plain ≡ false;
-      leads : (c : Configuration) → run (program_tree l.fn.plain) c l.fn.shown.items ≡ Some (configuration_of l.fn.plain)
-          → run (program_tree l.fn.plain) c l.shown.items ≡ Some (configuration_of l.plain);
+      leads : (c : Configuration) → run (program_tree l.fn.plain) c l.fn.shown ≡ Some (configuration_of l.fn.plain)
+          → run (program_tree l.fn.plain) c l.shown ≡ Some (configuration_of l.plain);
     }

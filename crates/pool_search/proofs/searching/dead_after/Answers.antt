@@ -4,9 +4,8 @@ use Rattle.run_types.specs.Tables.{Each}
 use Rattle.pool_syntax.specs.Terms.{ProgramTree}
 use Rattle.pool_relation.specs.Transition.{run, start}
 use Rattle.pool_semantics.specs.PlainOf.{configuration_of, program_tree}
-use Rattle.reachability.specs.Search.{in_order}
 use Rattle.search_laws.specs.Dead.{IsDead}
-use Rattle.search_laws.specs.ClosedBeside.{after_all, IsReachedInOrder}
+use Rattle.search_laws.specs.ClosedBeside.{IsReachedInOrder}
 use Rattle.pool_search.specs.VisitedConfigurations.{entry, kept_list, kept_program}
 use Rattle.pool_search.specs.Entries.{entries, lists}
 use Rattle.pool_search.specs.Progress.{Entries}
@@ -22,13 +21,13 @@ returns c = λ q asked.
     let p = program_tree c.args.plain.now in
     let first = configuration_of c.args.plain.now in
     let last = configuration_of c.retrace.new.plain in
-    let labels = c.retrace.new.shown.items in
+    let labels = c.retrace.new.shown in
     let next = c.in-Some.next in
     let place = c.in-Some-2.place in
     let k = c.find.new.self in
     let names = c.in_ok-names.names in
     let starts : start p 0 ≡ Some first = c.requires.start in
-    let nothing : run p first c.args.labels.now.items ≡ Some first = ap (run p first) c.requires.none in
+    let nothing : run p first c.args.labels.now ≡ Some first = ap (run p first) c.requires.none in
     let led : run p first labels ≡ Some last = c.in_ok-retrace.ensures.leads first nothing in
     let e = entry next (get_or (lists x) c.written-written.result []) last in
     let found : slice_get (entries x) place ≡ Some e =
@@ -41,9 +40,9 @@ returns c = λ q asked.
       first = first;
       labels = labels;
       starts = starts;
-      orders = ap (in_order 1) (sym c.deref-3.ensures.value) ∙ c.in-Some.ensures.order;
+      orders = c.in-Some.ensures.order;
       leads = led;
-      next = ap (after_all 1) (sym c.deref-3.ensures.value) ∙ c.in-Some.ensures.next;
+      next = c.in-Some.ensures.next;
     }
     in
     let dead : Each (IsDead (kept_program k) last) names.items = c.in_ok-names.ensures e there (subst (λ (t : ProgramTree). IsReachedInOrder t next last) (sym same) reached) in

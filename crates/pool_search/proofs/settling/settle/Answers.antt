@@ -17,7 +17,7 @@ loop-made-preserved c =
     let k = course_of c.args.keeps in
     let from = configuration_of l.plain in
     let to = configuration_of c.settle_once.new.plain in
-    let made = c.in-Ok-Some.field-0-0 in
+    let made = c.in-Ok-Some.label in
     let free : k.follows made ≡ true = subst (λ o. IfSome o (λ m. k.follows m ≡ true)) c.in-Ok-Some.field-0-is c.in-Ok-Some.ensures.follows in
     let step : transition (program_tree l.plain) from made ≡ Some to =
     subst (λ o. IfSome o (λ m. transition (program_tree l.plain) from m ≡ Some to)) c.in-Ok-Some.field-0-is c.in-Ok-Some.ensures.made

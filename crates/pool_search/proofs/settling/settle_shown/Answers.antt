@@ -9,7 +9,7 @@ use Rattle.pool_search.proofs.RunExtension.{run_more, followed_more}
 use Rattle.pool_search.proofs.settling.settle_shown.Goals as goal
 
 pub loop-made-init : goal.loop-made-init
-loop-made-init c = record { program = refl; fresh = c.requires; leads = λ k h. h; followed = ([], sym (append-nil c.args.shown.now.items), refl) }
+loop-made-init c = record { program = refl; fresh = c.requires; leads = λ k h. h; followed = ([], sym (append-nil c.args.shown.now), refl) }
 
 pub loop-made-preserved : goal.loop-made-preserved
 loop-made-preserved c =
@@ -28,11 +28,11 @@ loop-made-preserved c =
       program = c.settle_once.ensures.program ∙ l.invariant.program;
       fresh = c.in-Ok-Some.ensures.fresh;
       leads = λ k h.
-          ap (run p k) c.in_ok-push-in-Ok-Some.ensures.items
-          ∙ run_more p k from to l.shown.items made (l.invariant.leads k h) (subst (λ (q : ProgramTree). transition q from made ≡ Some to) l.invariant.program step);
+          ap (run p k) c.in_ok-push-in-Ok-Some.ensures
+          ∙ run_more p k from to l.shown made (l.invariant.leads k h) (subst (λ (q : ProgramTree). transition q from made ≡ Some to) l.invariant.program step);
       followed = (
         more.0 ++ made ∷ [],
-        c.in_ok-push-in-Ok-Some.ensures.items ∙ ap (λ xs. xs ++ made ∷ []) more.1 ∙ append_assoc c.args.shown.now.items more.0 (made ∷ []),
+        c.in_ok-push-in-Ok-Some.ensures ∙ ap (λ xs. xs ++ made ∷ []) more.1 ∙ append_assoc c.args.shown.now more.0 (made ∷ []),
         followed_more k more.0 made more.2 free,
       );
     }

@@ -12,7 +12,7 @@ invariant-loop-made l =
     record {
       program : program_tree l.plain ≡ program_tree l.initial.plain;
       fresh : is_spent l.plain ≡ false;
-      leads : (c : Configuration) → run (program_tree l.initial.plain) c l.initial.shown.items ≡ Some (configuration_of l.initial.plain)
-          → run (program_tree l.initial.plain) c l.shown.items ≡ Some (configuration_of l.plain);
-      followed : (added : List Label) × (l.shown.items ≡ l.initial.shown.items ++ added) × (all_followed (course_of l.keeps) added ≡ true);
+      leads : (c : Configuration) → run (program_tree l.initial.plain) c l.initial.shown ≡ Some (configuration_of l.initial.plain)
+          → run (program_tree l.initial.plain) c l.shown ≡ Some (configuration_of l.plain);
+      followed : (added : List Label) × (l.shown ≡ l.initial.shown ++ added) × (all_followed (course_of l.keeps) added ≡ true);
     }

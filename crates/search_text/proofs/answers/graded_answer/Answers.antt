@@ -1,9 +1,8 @@
-use Rattle.std.proofs.Common.{◌≡◌, ◌∙◌, map, string_bytes, ap, refl, subst, sym, true, false}
+use Rattle.std.proofs.Common.{◌≡◌, ◌∙◌, map, string_bytes, refl, subst, sym, true}
 use Rattle.std.proofs.lemmas.Result.{IfOk-weaker}
 use Rattle.std.specs.Prelude.{IfNone}
 use Rattle.run_types.specs.Tables.{Each}
 use Rattle.pool_syntax.specs.TreeOf.{program_of}
-use Rattle.search_text.specs.AnswerText.{wrong_text}
 use Rattle.search_text.specs.Answers as A
 use Rattle.search_text.specs.Grading.{is_allowed}
 use Rattle.search_text.proofs.GradeLaws.{listed_grade}
@@ -24,9 +23,9 @@ returns-in_default g c =
 pub returns-then-not-branch : goal.returns-then-not-branch
 returns-then-not-branch g c =
     let o = c.in-Shown.outcome in
-    A.fails o c.in-Shown.labels.items (c.in_ok-outcome.ensures.shown o c.in-Shown.labels c.in-Shown.is)
+    A.fails o c.in-Shown.labels (c.in_ok-outcome.ensures.shown o c.in-Shown.labels c.in-Shown.is)
     (sym c.in_ok-is_allowed.ensures ∙ c.if-not-branch.true)
-    (c.in_ok-wrong_text.ensures ∙ ap (wrong_text c.args.names.now o) c.deref-then-not-branch.ensures.value) refl
+    c.in_ok-wrong_text.ensures refl
 
 pub returns : goal.returns
 returns g c =

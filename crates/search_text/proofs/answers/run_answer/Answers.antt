@@ -1,12 +1,11 @@
-use Rattle.std.proofs.Common.{◌∙◌, ◌≤◌, ℕ, length, ap, inl, inr, refl, subst}
-use Rattle.search_text.specs.AnswerText.{run_text}
+use Rattle.std.proofs.Common.{◌≤◌, ℕ, length, inl, inr, refl, subst}
 use Rattle.search_text.specs.Answers as A
 use Rattle.search_text.proofs.answers.run_answer.Goals as goal
 
 pub returns-in_ok-run_text-in-Shown : goal.returns-in_ok-run_text-in-Shown
 returns-in_ok-run_text-in-Shown g c =
-    A.run c.in-Shown.outcome c.in-Shown.labels.items (c.in_ok-outcome.ensures.shown c.in-Shown.outcome c.in-Shown.labels c.in-Shown.is)
-    (c.in_ok-run_text-in-Shown.ensures ∙ ap (run_text c.args.names.now c.in-Shown.outcome.kind) c.deref.ensures.value) refl
+    A.run c.in-Shown.outcome c.in-Shown.labels (c.in_ok-outcome.ensures.shown c.in-Shown.outcome c.in-Shown.labels c.in-Shown.is)
+    c.in_ok-run_text-in-Shown.ensures refl
 
 pub returns-in_ok-finite_text-in-Finite : goal.returns-in_ok-finite_text-in-Finite
 returns-in_ok-finite_text-in-Finite g c =

@@ -1,8 +1,6 @@
-use Rattle.std.proofs.Common.{◌∙◌, ℕ, List, Ok, ap, refl, subst, sym}
-use Rattle.run_types.specs.declared.types.Label.{Label}
+use Rattle.std.proofs.Common.{ℕ, List, Ok, ap, refl, subst, sym}
 use Rattle.pool_syntax.specs.TreeOf.{program_of}
 use Rattle.pool_search.specs.SearchTargets.{IsWantedDead, LeadsInOrder}
-use Rattle.search_text.specs.AnswerText.{fault_text}
 use Rattle.search_text.specs.Answers as A
 use Rattle.search_text.proofs.answers.sought_answer.Goals as goal
 
@@ -12,13 +10,12 @@ dead_answer-requires g c =
     let q = c.args.question.now in
     let d = c.in-Ok-Dead in
     let led = d.ensures.dead d.labels d.dead (ap Ok d.field-0-is) in
-    subst (λ (ls : List Label). LeadsInOrder p ls (IsWantedDead p q c.deref-in-Ok-Dead-2.result.now)) (sym c.deref-in-Ok-Dead.ensures.value)
-    (subst (λ (ns : List ℕ). LeadsInOrder p d.labels.items (IsWantedDead p q ns)) (sym c.deref-in-Ok-Dead-2.ensures.value) led)
+    subst (λ (ns : List ℕ). LeadsInOrder p d.labels (IsWantedDead p q ns)) (sym c.deref.ensures.value) led
 
 pub returns-in_ok-fault_text-in-Ok-Fault : goal.returns-in_ok-fault_text-in-Ok-Fault
 returns-in_ok-fault_text-in-Ok-Fault g c =
-    A.faulty c.in-Ok-Fault.labels.items (c.in-Ok-Fault.ensures.fault c.in-Ok-Fault.labels (ap Ok c.in-Ok-Fault.field-0-is))
-    (c.in_ok-fault_text-in-Ok-Fault.ensures ∙ ap (fault_text c.args.names.now) c.deref-in-Ok-Fault.ensures.value) refl
+    A.faulty c.in-Ok-Fault.labels (c.in-Ok-Fault.ensures.fault c.in-Ok-Fault.labels (ap Ok c.in-Ok-Fault.field-0-is))
+    c.in_ok-fault_text-in-Ok-Fault.ensures refl
 
 pub returns-in_ok-finite_text-in-Ok-Finite : goal.returns-in_ok-finite_text-in-Ok-Finite
 returns-in_ok-finite_text-in-Ok-Finite g c =

@@ -1,11 +1,10 @@
-use Rattle.std.proofs.Common.{◌≡◌, ◌≤◌, ◌-◌, ◌++◌, drop, length}
+use Rattle.std.proofs.Common.{◌≡◌, ◌++◌, drop}
+use Rattle.label_list.specs.Parts.{labels_in}
 use Rattle.search_text.specs.AnswerText.{steps_text}
+use Rattle.search_text.specs.OpenSteps.{text_from}
 use Rattle.search_text.specs.Steps.{steps}
 use Rattle.search_text.proofs.steps.push_steps.Given as goal
 
-abbrev pub invariant-loop-at : goal.invariant-loop-at
-invariant-loop-at l =
-    (l.at ≤ length l.labels) × (l.fn.text.items ++ steps_text l.names (steps l.labels) ≡ l.text.items ++ steps_text l.names (steps (drop l.at l.labels)))
-
-abbrev pub decreases-loop-at : goal.decreases-loop-at
-decreases-loop-at l = length l.labels - l.at
+-- the text so far, and that of the open labels and those that are left, are the text of all
+abbrev pub invariant-loop-part : goal.invariant-loop-part
+invariant-loop-part l = l.text.items ++ text_from l.names l.locals (labels_in (drop l.part-index l.part-items)) ≡ l.fn.text.items ++ steps_text l.names (steps l.labels)

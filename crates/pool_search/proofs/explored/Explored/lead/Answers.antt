@@ -175,10 +175,10 @@ returns-in-Some-clause-edge c = λ to told.
     let n = c.args.next in
     let l = c.args.label.now in
     let from = configuration_of c.args.plain.now in
-    let made = c.settle_and_find.new.made.items in
+    let made = c.settle_and_find.new.made in
     let place = c.in-Some.to in
     let is : place ≡ to = cc in
     let step : transition p from l ≡ Some (configuration_of c.apply.new.self) = subst (λ (q : ProgramTree). transition q from l ≡ Some (configuration_of c.apply.new.self)) c.requires.program c.in-Ok.ensures.made in
-    let first : c.push.new.self.items ≡ l ∷ [] = c.in_ok-push.ensures.items ∙ ap (λ (ls : List Label). ls ++ l ∷ []) c.clear.ensures.items in
+    let first : c.push.new.self ≡ l ∷ [] = c.in_ok-push.ensures ∙ ap (λ (ls : List Label). ls ++ l ∷ []) c.clear.ensures in
     let edge : IsEdge p es n from l made place = subst (λ o. IfSome o (IsEdge p es n from l made)) c.in-Some.is (c.in_ok-to.ensures.edge from step first) in
     subst (IsEdge p es n from l made) is edge

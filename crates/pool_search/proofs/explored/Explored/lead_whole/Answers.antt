@@ -1,6 +1,5 @@
-use Rattle.std.proofs.Common.{◌≡◌, Ok, subst, ap, List}
+use Rattle.std.proofs.Common.{◌≡◌, Ok, subst, ap}
 use Rattle.std.specs.Prelude.{IfSome}
-use Rattle.run_types.specs.declared.types.Label.{Label}
 use Rattle.pool_relation.specs.Configuration.{Configuration}
 use Rattle.pool_semantics.specs.PlainOf.{configuration_of}
 use Rattle.object_moves.specs.Followed.{AreChanged}
@@ -15,7 +14,7 @@ returns-in-Ok-To-clause-led c = λ i told e there.
     let label = c.args.label.now in
     let to = c.in-Ok-To.to in
     let is : to ≡ i = cc in
-    let made = c.lead.new.made.items in
+    let made = c.lead.new.made in
     let moved = c.changed_by.new.moved.items in
     let n = c.next_name-next.result in
     let at = configuration_of c.in_ok-plain.plain in
@@ -25,6 +24,5 @@ returns-in-Ok-To-clause-led c = λ i told e there.
     let from : IsEdge p es e.next e.configuration label made to =
     subst (λ (x : Configuration). IsEdge p es e.next x label made to) same (subst (λ m. IsEdge p es m at label made to) name edge)
     in
-    let told : AreChanged c.deref.result.now moved = c.in_ok-changed_by-in-Ok-To.ensures in
-    let changed : AreChanged made moved = subst (λ (ls : List Label). AreChanged ls moved) c.deref.ensures.value told in
+    let changed : AreChanged made moved = c.in_ok-changed_by-in-Ok-To.ensures in
     subst (HasMovedTo p es e.next e.configuration label moved) is (record { made = made; edge = from; changed = changed })

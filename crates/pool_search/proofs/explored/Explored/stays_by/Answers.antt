@@ -1,4 +1,4 @@
-use Rattle.std.proofs.Common.{◌≡◌, ap, subst, Some, Ok, true}
+use Rattle.std.proofs.Common.{◌≡◌, refl, ap, subst, Some, Ok, true}
 use Rattle.std.specs.Prelude.{IfSome}
 use Rattle.std.specs.List.{filter}
 use Rattle.run_types.specs.declared.types.Label.{Label}
@@ -14,6 +14,7 @@ use Rattle.pool_search.specs.Leads.{IsBeside}
 use Rattle.pool_search.specs.Trials.{is_asked, is_tried}
 use Rattle.pool_search.specs.VisitedConfigurations.{entry}
 use Rattle.pool_search.proofs.ListGrowth.{each_at}
+use Rattle.pool_search.proofs.TrialResults.{not_true}
 use Rattle.pool_search.proofs.WaiterLaws.{stays_by_those}
 use Rattle.pool_search.proofs.explored.Explored.stays_by.Goals as goal
 
@@ -35,3 +36,54 @@ returns-in-Ok-Led-clause-stays c = λ yes e g.
     stays_by_those p es ws c.args.object c.args.at n at e b c.in-Ok-Led.field-0-0 c.requires.there g enough
     (subst (λ ls. Each (IsBeside p es ws c.args.object n at) (filter (is_asked (Some b)) ls)) c.requires.labels (c.in-Ok-Led.ensures.tried tried))
     (c.in-Ok-Led.ensures.led c.in-Ok-Led.field-0-0 (ap Ok c.in-Ok-Led.field-0-is))
+
+pub returns-then-not-serves_some-clause-same : goal.returns-then-not-serves_some-clause-same
+returns-then-not-serves_some-clause-same c = refl
+
+pub returns-then-not-serves_some-clause-program : goal.returns-then-not-serves_some-clause-program
+returns-then-not-serves_some-clause-program c = refl
+
+pub returns-then-not-serves_some-clause-again : goal.returns-then-not-serves_some-clause-again
+returns-then-not-serves_some-clause-again c = refl
+
+pub returns-then-not-serves_some-clause-same_program : goal.returns-then-not-serves_some-clause-same_program
+returns-then-not-serves_some-clause-same_program c = refl
+
+pub returns-then-not-serves_some-clause-fresh : goal.returns-then-not-serves_some-clause-fresh
+returns-then-not-serves_some-clause-fresh c = c.requires.fresh
+
+pub returns-then-not-serves_some-clause-stays : goal.returns-then-not-serves_some-clause-stays
+returns-then-not-serves_some-clause-stays c = λ told. absurd (not_true _ refl told)
+
+pub returns-then-not-is_only_awaited-clause-same : goal.returns-then-not-is_only_awaited-clause-same
+returns-then-not-is_only_awaited-clause-same c = refl
+
+pub returns-then-not-is_only_awaited-clause-program : goal.returns-then-not-is_only_awaited-clause-program
+returns-then-not-is_only_awaited-clause-program c = refl
+
+pub returns-then-not-is_only_awaited-clause-again : goal.returns-then-not-is_only_awaited-clause-again
+returns-then-not-is_only_awaited-clause-again c = refl
+
+pub returns-then-not-is_only_awaited-clause-same_program : goal.returns-then-not-is_only_awaited-clause-same_program
+returns-then-not-is_only_awaited-clause-same_program c = refl
+
+pub returns-then-not-is_only_awaited-clause-fresh : goal.returns-then-not-is_only_awaited-clause-fresh
+returns-then-not-is_only_awaited-clause-fresh c = c.requires.fresh
+
+pub returns-then-not-is_only_awaited-clause-stays : goal.returns-then-not-is_only_awaited-clause-stays
+returns-then-not-is_only_awaited-clause-stays c = λ told. absurd (not_true _ refl told)
+
+pub returns-in-Ok-Led-clause-same : goal.returns-in-Ok-Led-clause-same
+returns-in-Ok-Led-clause-same c = c.are_beside.ensures.same
+
+pub returns-in-Ok-Led-clause-program : goal.returns-in-Ok-Led-clause-program
+returns-in-Ok-Led-clause-program c = c.are_beside.ensures.program
+
+pub returns-in-Ok-Led-clause-again : goal.returns-in-Ok-Led-clause-again
+returns-in-Ok-Led-clause-again c = c.in-Ok-Led.ensures.again
+
+pub returns-in-Ok-Led-clause-same_program : goal.returns-in-Ok-Led-clause-same_program
+returns-in-Ok-Led-clause-same_program c = c.in-Ok-Led.ensures.same_program
+
+pub returns-in-Ok-Led-clause-fresh : goal.returns-in-Ok-Led-clause-fresh
+returns-in-Ok-Led-clause-fresh c = c.in-Ok-Led.ensures.fresh

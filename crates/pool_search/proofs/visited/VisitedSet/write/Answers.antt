@@ -5,4 +5,4 @@ use Rattle.pool_search.proofs.visited.VisitedSet.write.Goals as goal
 
 pub returns-clause-list : goal.returns-clause-list
 returns-clause-list c =
-    let k = c.args.self.now in lists_still (known_states k.moves) (lists_of k.writings) (lists_of c.write.new.self) k.entries.items c.write.ensures.grown k.named
+    let k = c.args.self.now in lists_still (known_states k.moves) k.mails (lists_of k.writings) (lists_of c.write.new.self) k.rows c.write.ensures.grown k.named

@@ -13,8 +13,11 @@ use Rattle.object_moves.specs.Tables.{known_states, table_program}
 use Rattle.pool_search.specs.WaiterLists.{HasWaiter, IsOpen}
 use Rattle.pool_search.specs.declared.waiters.Waiter.{Waiter}
 use Rattle.pool_search.specs.declared.waiters.Waiters.{Waiters}
+use Rattle.std.proofs.lemmas.Result.{err_from_is_err_and}
+use Rattle.pool_search.proofs.FailedResults.{not_ok}
 use Rattle.pool_search.proofs.ListGrowth.{each_more}
 use Rattle.pool_search.proofs.RowObjects.{object_there, place_within}
+use Rattle.pool_search.proofs.TrialResults.{not_true}
 use Rattle.pool_search.proofs.WaiterLaws.{added_more, has_last, has_more}
 use Rattle.pool_search.proofs.waiters.Waiters.add.Goals as goal
 use Rattle.pool_search.proofs.waiters.Waiters.add.Goals.{then-is_calling+in_ok-push-2, else-is_calling}
@@ -69,3 +72,36 @@ returns-clause-all c = λ told k same o waits.
     let past : length ns ≤ c.loop-i.i = search rules in
     let inside : o < length ns = place_within xs ns k o same waits.object waits.there in
     c.loop-i.invariant.all k same o (omega arith) waits
+
+pub returns-in_default-try_from-clause-grown : goal.returns-in_default-try_from-clause-grown
+returns-in_default-try_from-clause-grown c = c.loop-i.invariant.grown
+
+pub returns-in_default-try_from-clause-none_noted : goal.returns-in_default-try_from-clause-none_noted
+returns-in_default-try_from-clause-none_noted c = c.loop-i.invariant.none_noted
+
+pub returns-in_default-try_from-clause-all : goal.returns-in_default-try_from-clause-all
+returns-in_default-try_from-clause-all c = λ told. absurd (not_true _ refl told)
+
+pub returns-clause-grown : goal.returns-clause-grown
+returns-clause-grown c = c.loop-i.invariant.grown
+
+pub returns-clause-none_noted : goal.returns-clause-none_noted
+returns-clause-none_noted c = c.loop-i.invariant.none_noted
+
+pub returns-in_err-push-clause-grown : goal.returns-in_err-push-clause-grown
+returns-in_err-push-clause-grown c = rw ((err_from_is_err_and c.from_residual.result c.from_residual.ensures.1).1) tt
+
+pub returns-in_err-push-clause-none_noted : goal.returns-in_err-push-clause-none_noted
+returns-in_err-push-clause-none_noted c = rw ((err_from_is_err_and c.from_residual.result c.from_residual.ensures.1).1) tt
+
+pub returns-in_err-push-clause-all : goal.returns-in_err-push-clause-all
+returns-in_err-push-clause-all c = λ told. absurd (not_ok c.from_residual.result (err_from_is_err_and c.from_residual.result c.from_residual.ensures.1).0 true (err_from_is_err_and c.from_residual.result c.from_residual.ensures.1).1 told)
+
+pub returns-in_err-push-2-clause-grown : goal.returns-in_err-push-2-clause-grown
+returns-in_err-push-2-clause-grown c = rw ((err_from_is_err_and c.from_residual-in_err-push-2.result c.from_residual-in_err-push-2.ensures.1).1) tt
+
+pub returns-in_err-push-2-clause-none_noted : goal.returns-in_err-push-2-clause-none_noted
+returns-in_err-push-2-clause-none_noted c = rw ((err_from_is_err_and c.from_residual-in_err-push-2.result c.from_residual-in_err-push-2.ensures.1).1) tt
+
+pub returns-in_err-push-2-clause-all : goal.returns-in_err-push-2-clause-all
+returns-in_err-push-2-clause-all c = λ told. absurd (not_ok c.from_residual-in_err-push-2.result (err_from_is_err_and c.from_residual-in_err-push-2.result c.from_residual-in_err-push-2.ensures.1).0 true (err_from_is_err_and c.from_residual-in_err-push-2.result c.from_residual-in_err-push-2.ensures.1).1 told)

@@ -1,0 +1,3 @@
+-- Internal: what it does not.
+pub mod Numbered
+pub mod Messages
