@@ -1,6 +1,9 @@
 -- The verdict, heading by heading and code by code.
-use Rattle.std.proofs.Common.{◌≡◌, refl, sym, ap, subst, ◌∙◌, ℕ, zero, suc, ◌+◌, ◌-◌, ◌<◌, ◌≤◌, List, [], ◌∷◌, length, drop, Some, None, Bool, true, false, not, arith}
-use Rattle.std.specs.Prelude.{get_or, slice_get}
+use Rattle.std.proofs.Common.{◌≡◌, refl, sym, ap, subst, ◌∙◌, ℕ, zero, suc, ◌+◌, ◌-◌, ◌<◌, ◌≤◌, List, [], ◌∷◌, length, drop, Some, None, Bool, true, false, not, ◌&&◌, arith}
+use Rattle.std.specs.Prelude.{get_or, nat_le, slice_get}
+use Rattle.std.specs.List.{list_all}
+use Rattle.text_scan.specs.Keywords.{is_name}
+use Rattle.code_semantics.specs.Step.{method_named}
 use Rattle.run_types.proofs.Laws.{same_some}
 use Rattle.code_semantics.specs.declared.unit.ClassCode.{ClassCode}
 use Rattle.code_semantics.specs.declared.unit.MethodCode.{MethodCode}
@@ -10,7 +13,7 @@ use Rattle.code_semantics.specs.declared.file.UnitFile.{UnitFile}
 use Rattle.code_semantics.specs.Shaped.{AreShapedClasses, IsShaped}
 use Rattle.run_types.specs.Partial.{◌>>=◌}
 use Rattle.code_typing.specs.Sorts.{Declared, declared_at, scope_by}
-use Rattle.code_typing.specs.Verdict.{Verdict, Header, Code, bad_code, bad_codes, bad_heading, bad_method, fault_if, heading_right, is_well_sorted, or_else}
+use Rattle.code_typing.specs.Verdict.{Verdict, Header, Code, bad_code, bad_codes, bad_heading, bad_method, fault_if, heading_right, is_first, is_well_sorted, kind_exists, methods_right, or_else, result_exists}
 use Rattle.code_typing.proofs.Laws.{heading_is, no_bad_heading}
 
 -- an item by its place
@@ -35,6 +38,14 @@ pub methods_over : (f : UnitFile) (k : Declared) (j i : ℕ) (ms : List MethodCo
 methods_over f k j i ms ss e = ap (bad_method f k j i (drop i ms)) (drop_none ss i e) ∙ no_kinds (drop i ms)
   where
     no_kinds : (ms : List MethodCode) → bad_method f k j i ms [] ≡ None
+    no_kinds [] = refl
+    no_kinds (m ∷ ms) = refl
+
+-- nor is there a heading
+pub headings_over : (f : UnitFile) (k : ClassCode) (i : ℕ) (ms : List MethodCode) (ss : List MethodKinds) → slice_get ss i ≡ None → methods_right f k i (drop i ms) (drop i ss) ≡ true
+headings_over f k i ms ss e = ap (methods_right f k i (drop i ms)) (drop_none ss i e) ∙ no_kinds (drop i ms)
+  where
+    no_kinds : (ms : List MethodCode) → methods_right f k i ms [] ≡ true
     no_kinds [] = refl
     no_kinds (m ∷ ms) = refl
 
@@ -97,6 +108,19 @@ module _ (f : UnitFile) where
 
   pub codes_done : (n j : ℕ) → n ≤ j → bad_codes f (n - j) j ≡ None
   codes_done n j le = ap (λ m. bad_codes f m j) (let z : n - j ≡ 0 = omega (arith, le) in z)
+
+-- the heading of a method meets its rules
+abbrev pub method_heading : UnitFile → ClassCode → ℕ → MethodCode → MethodKinds → Bool
+method_heading f k i m s =
+    is_name f.unit.names m.name.0 && is_first i (method_named (Some k) m.name) && nat_le m.params 8 && nat_le m.temps 32 && nat_le m.params m.temps && list_all (kind_exists f) s.temps
+    && result_exists f s.result
+
+module _ (f : UnitFile) (k : ClassCode) (i : ℕ) (ms : List MethodCode) (ss : List MethodKinds) (m : MethodCode) (s : MethodKinds) (m_is : drop i ms ≡ m ∷ drop (suc i) ms)
+    (s_is : drop i ss ≡ s ∷ drop (suc i) ss) where
+  pub heading_then : (b : Bool) → b ≡ method_heading f k i m s → methods_right f k i (drop i ms) (drop i ss) ≡ (b && methods_right f k (suc i) (drop (suc i) ms) (drop (suc i) ss))
+  heading_then b e =
+      ap (λ l. methods_right f k i l (drop i ss)) m_is ∙ ap (methods_right f k i (m ∷ drop (suc i) ms)) s_is
+      ∙ ap (λ x. x && methods_right f k (suc i) (drop (suc i) ms) (drop (suc i) ss)) (sym e)
 
 module _ (f : UnitFile) (k : Declared) (j i : ℕ) (ms : List MethodCode) (ss : List MethodKinds) (m : MethodCode) (s : MethodKinds) (m_is : drop i ms ≡ m ∷ drop (suc i) ms)
     (s_is : drop i ss ≡ s ∷ drop (suc i) ss) where

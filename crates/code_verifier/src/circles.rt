@@ -40,7 +40,9 @@ fn first_marks(alloc: Global, code: &[Instr], count: u32) -> Result<Vec<Mark>, A
 {
     let mut marks = Vec::new(alloc);
     for place in 0..count {
-        marks.push(first_mark(place, &code[place as usize]))?;
+        let Ok(()) = marks.push(first_mark(place, &code[place as usize])) else {
+            return Err(AllocError);
+        };
     }
     Ok(marks)
 }

@@ -17,7 +17,9 @@ pub fn places_of(alloc: Global, classes: &[ClassCode]) -> Result<BTreeMap<u32, u
 {
     let mut places = BTreeMap::new(alloc);
     for i in (0..classes.len()).rev() {
-        places.insert(classes[i].name.0, i)?;
+        let Ok(_) = places.insert(classes[i].name.0, i) else {
+            return Err(AllocError);
+        };
     }
     Ok(places)
 }

@@ -7,7 +7,7 @@ ghost use Rattle.code_semantics.specs.Shaped.{IsShaped};
 ghost use Rattle.code_typing.specs.Sorts.{declared_at};
 ghost use Rattle.code_typing.specs.Verdict.{Header, bad_heading, heading_right, is_first, is_place, kind_exists, methods_right, result_exists};
 
-use crate::classes::{Class, method_place};
+use crate::classes::{Class, kinds_at, method_place};
 use crate::index::Classes;
 use crate::texts::is_name;
 use code_semantics::{ClassCode, MethodCode, MethodKinds};
@@ -94,8 +94,9 @@ fn methods_right(classes: &Classes<'_>, class: &Class<'_>) -> bool
 {
     let kinds = class.kinds.methods.items();
     for (place, method) in class.code.methods.items().iter().enumerate() {
-        let Some(kinds) = kinds.get(place) else {
-            return true;
+        let kinds = match kinds_at(kinds, place) {
+            Some(kinds) => kinds,
+            None => return true,
         };
         if !method_right(classes, class.code, place, method, kinds) {
             return false;

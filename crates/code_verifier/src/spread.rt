@@ -58,7 +58,9 @@ fn push_alternatives(
 {
     for i in (0..alternatives.len()).rev() {
         let place = alternatives[i].at as usize;
-        visits.push(Visit { place, stack })?;
+        let Ok(()) = visits.push(Visit { place, stack }) else {
+            return Err(AllocError);
+        };
     }
     Ok(())
 }
@@ -118,17 +120,19 @@ fn unreached(alloc: Global, size: usize) -> Result<Vec<Option<usize>>, AllocErro
 {
     let mut table = Vec::new(alloc);
     for _ in 0..size {
-        table.push(None)?;
+        let Ok(()) = table.push(None) else {
+            return Err(AllocError);
+        };
     }
     Ok(table)
 }
 
-/// Whether no place from 2^32 on is reached.
+/// Whether no place from this one on is reached.
 #[tactic(auto, using(crate::proofs::SpreadSteps::none_far))]
-fn is_within(table: &[Option<usize>]) -> bool
-    ensures { result ≡ list_all is_none (drop (2 ^ 32) table.now) }
+fn is_within(table: &[Option<usize>], end: usize) -> bool
+    ensures { result ≡ list_all is_none (drop end table.now) }
 {
-    for place in MOST_PLACES..table.len() {
+    for place in end..table.len() {
         if table[place].is_some() {
             return false;
         }
@@ -243,7 +247,7 @@ impl Spread {
         if words - temps != most {
             return false;
         }
-        is_within(&self.table)
+        is_within(&self.table, MOST_PLACES)
     }
 }
 

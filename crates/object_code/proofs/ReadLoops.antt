@@ -1,7 +1,7 @@
 -- Reading items one after another, as a loop does; tables of names.
 use Rattle.std.proofs.Common.{◌≡◌, refl, sym, ap, subst, ◌∙◌, ℕ, zero, suc, ◌+◌, ◌-◌, ◌<◌, ◌≤◌, List, [], ◌∷◌, ◌++◌, length, drop, get_or, Option, Some, None, Bool, true, false, append_assoc, slice_get, arith}
-use Rattle.std.specs.Prelude.{is_some, if◌then◌else◌, ◌==◌, ◌||◌, bytes_eq}
-use Rattle.std.proofs.lemmas.List.{append-nil, at_drop_all, at_drop_more, length-append}
+use Rattle.std.specs.Prelude.{is_some, if◌then◌else◌, ◌||◌, bytes_eq}
+use Rattle.std.proofs.lemmas.List.{append-nil, at_drop_all, at_drop_more}
 use Rattle.text_scan.specs.Text.{Text}
 use Rattle.run_types.specs.Table.{is_among, name_of, with_text}
 use Rattle.object_code.specs.declared.code_fault.Unread.{Unread}

@@ -6,8 +6,8 @@ use Rattle.object_code.specs.declared.code_fault.Unread.TheVariants as U
 use Rattle.object_code.specs.declared.code_fault.CodeFault.{CodeFault}
 use Rattle.object_code.specs.declared.code_fault.CodeFault.TheVariants as C
 use Rattle.code_semantics.specs.declared.file.UnitFile.{UnitFile}
-use Rattle.object_code.specs.Read.{Read, Stop}
-use Rattle.object_code.specs.Decode.{first_twice, Decoded, BadBytes, NameTwice}
+use Rattle.object_code.specs.Read.{Read, Got, Stop}
+use Rattle.object_code.specs.Decode.{first_twice, read_file, Decoded, BadBytes, NameTwice}
 
 abbrev pub Stops : {A : Type 0} → Unread → Read A → Type 0
 Stops U.Memory r = Unit {0}
@@ -24,6 +24,10 @@ pub record IsTable (texts names : List Text) (again : Option ℕ) : Type 0 where
 
 abbrev pub with_names : List Text → UnitFile → UnitFile
 with_names texts f = record f { unit = record f.unit { names = texts } }
+
+-- The bytes begin with this file, but for the names after a duplicate one, and `rest` is left.
+abbrev pub IsFront : Text → UnitFile → Option ℕ → Text → Type 0
+IsFront bytes f again rest = (texts : List Text) × (read_file bytes ≡ Got (with_names texts f) rest) × IsTable texts f.unit.names again
 
 abbrev pub ReportsDecodeFault : CodeFault → Decoded → Type 0
 ReportsDecodeFault C.Memory d = Unit {0}

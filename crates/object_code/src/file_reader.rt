@@ -1,5 +1,5 @@
 //! Reads the bytes of an object code file.
-ghost use Rattle.std.specs.Prelude.{◌≡◌, ◌+◌, ◌-◌, ◌<◌, ◌≤◌, ◌^◌, ℕ, List as texts_list, [], ◌∷◌, ◌++◌, length, IfOk, IfErr};
+ghost use Rattle.std.specs.Prelude.{◌≡◌, ◌+◌, ◌-◌, ◌<◌, ◌≤◌, ◌^◌, ℕ, List as texts_list, [], ◌∷◌, ◌++◌, length, IfOk, IfErr, OnOk};
 ghost use Rattle.text_scan.specs.Text.{Text};
 ghost use Rattle.run_types.specs.declared.types.NameId.{NameId as Name};
 ghost use Rattle.object_code.specs.declared.code_fault.CodeFault.TheVariants.{BadBytes};
@@ -7,9 +7,10 @@ ghost use Rattle.object_code.specs.declared.code_fault.Unread.TheVariants.{BadBy
 ghost use Rattle.code_semantics.specs.declared.unit.Instr.{Instr as Instruction};
 ghost use Rattle.object_code.specs.Decode.{Says, decode as decoded_bytes, read_alternative, read_class, read_code, read_exactly, read_file, read_instr, read_integer, read_kind, read_method};
 ghost use Rattle.object_code.specs.Decode.{read_name, read_operator, read_option, read_sent, read_text, read_truth};
+ghost use Rattle.code_semantics.specs.declared.file.UnitFile.{UnitFile as AFile};
 ghost use Rattle.code_semantics.specs.Shaped.{IsShaped, IsShort};
 ghost use Rattle.code_semantics.specs.Pairs.{pairs};
-ghost use Rattle.object_code.specs.ReadResults.{Gives, IsTable, Stops, ReportsDecodeFault, with_names};
+ghost use Rattle.object_code.specs.ReadResults.{Gives, IsFront, IsTable, Stops, ReportsDecodeFault};
 ghost use Rattle.object_code.specs.Read.{Got, Reader, read_list, read_number};
 
 use crate::code_fault::{CodeFault, Unread};
@@ -25,6 +26,16 @@ macro_rules! made {
         match $taken {
             Ok(($part, rest)) => Ok(($made, rest)),
             Err(fault) => Err(fault),
+        }
+    };
+}
+
+/// The part that was taken off the front. If none was taken, the fault is returned.
+macro_rules! taken {
+    ($taken:expr) => {
+        match $taken {
+            Ok(taken) => taken,
+            Err(fault) => return Err(fault),
         }
     };
 }
@@ -64,7 +75,7 @@ fn take_integer(bytes: &[u8]) -> Result<(Instr, &[u8]), Unread>
 fn take_truth(bytes: &[u8]) -> Result<(bool, &[u8]), Unread>
     ensures { Gives (λ r. Got r.0 r.1.now) result (read_truth bytes.now) }
 {
-    let (byte, rest) = take_byte(bytes)?;
+    let (byte, rest) = taken!(take_byte(bytes));
     match byte {
         0 => Ok((false, rest)),
         1 => Ok((true, rest)),
@@ -75,7 +86,7 @@ fn take_truth(bytes: &[u8]) -> Result<(bool, &[u8]), Unread>
 fn take_operator(bytes: &[u8]) -> Result<(Op, &[u8]), Unread>
     ensures { Gives (λ r. Got r.0 r.1.now) result (read_operator bytes.now) }
 {
-    let (byte, rest) = take_byte(bytes)?;
+    let (byte, rest) = taken!(take_byte(bytes));
     match byte {
         1 => Ok((Op::Add, rest)),
         2 => Ok((Op::Sub, rest)),
@@ -110,11 +121,13 @@ fn take_list<T: Listed>(alloc: Global, bytes: &[u8]) -> Result<(List<T>, &[u8]),
     ensures given { Gives (λ r. Got r.0 r.1.now) result (read_list T.reader bytes.now) }
     ensures short { IfOk result (λ r. length r.0 < 2 ^ 32) }
 {
-    let (count, mut rest) = take_number(bytes)?;
+    let (count, mut rest) = taken!(take_number(bytes));
     let mut items = List::make(alloc);
     for _ in 0..count {
-        let (item, behind) = T::take_item(alloc, rest)?;
-        items.push(item)?;
+        let (item, behind) = taken!(T::take_item(alloc, rest));
+        let Ok(()) = items.push(item) else {
+            return Err(Unread::Memory);
+        };
         rest = behind;
     }
     Ok((items, rest))
@@ -138,7 +151,7 @@ impl Listed for Kind {
     ghost reader = { read_kind };
 
     fn take_item(_alloc: Global, bytes: &[u8]) -> Result<(Kind, &[u8]), Unread> {
-        let (byte, rest) = take_byte(bytes)?;
+        let (byte, rest) = taken!(take_byte(bytes));
         match byte {
             1 => Ok((Kind::Int, rest)),
             2 => Ok((Kind::Bool, rest)),
@@ -152,7 +165,7 @@ impl Listed for Kind {
 fn take_result(alloc: Global, bytes: &[u8]) -> Result<(Option<Kind>, &[u8]), Unread>
     ensures { Gives (λ r. Got r.0 r.1.now) result (read_option read_kind bytes.now) }
 {
-    let (byte, rest) = take_byte(bytes)?;
+    let (byte, rest) = taken!(take_byte(bytes));
     match byte {
         0 => Ok((None, rest)),
         1 => made!(kind = Kind::take_item(alloc, rest) => Some(kind)),
@@ -163,7 +176,7 @@ fn take_result(alloc: Global, bytes: &[u8]) -> Result<(Option<Kind>, &[u8]), Unr
 fn take_answer(alloc: Global, bytes: &[u8]) -> Result<(Option<List<NameId>>, &[u8]), Unread>
     ensures { Gives (λ r. Got r.0 r.1.now) result (read_option (read_list read_name) bytes.now) }
 {
-    let (byte, rest) = take_byte(bytes)?;
+    let (byte, rest) = taken!(take_byte(bytes));
     match byte {
         0 => Ok((None, rest)),
         1 => made!(names = take_list::<NameId>(alloc, rest) => Some(names)),
@@ -175,7 +188,7 @@ impl Listed for AltCode {
     ghost reader = { read_alternative };
 
     fn take_item(alloc: Global, bytes: &[u8]) -> Result<(AltCode, &[u8]), Unread> {
-        let (answer, rest) = take_answer(alloc, bytes)?;
+        let (answer, rest) = taken!(take_answer(alloc, bytes));
         made!(at = take_number(rest) => AltCode { answer, at })
     }
 }
@@ -184,7 +197,7 @@ impl Listed for AltCode {
 fn take_sent(bytes: &[u8]) -> Result<((NameId, u32), &[u8]), Unread>
     ensures { (make : Name → ℕ → Instruction) → Gives (λ r. Got (make r.0.0 r.0.1) r.1.now) result (read_sent make bytes.now) }
 {
-    let (method, rest) = take_name(bytes)?;
+    let (method, rest) = taken!(take_name(bytes));
     made!(count = take_number(rest) => (method, count))
 }
 
@@ -240,7 +253,7 @@ impl Listed for Instr {
     ghost reader = { read_instr };
 
     fn take_item(alloc: Global, bytes: &[u8]) -> Result<(Instr, &[u8]), Unread> {
-        let (byte, rest) = take_byte(bytes)?;
+        let (byte, rest) = taken!(take_byte(bytes));
         if byte > 12 {
             take_from_loop(alloc, byte, rest)
         } else {
@@ -253,7 +266,7 @@ impl Listed for Instr {
 fn take_code(alloc: Global, bytes: &[u8]) -> Result<(BodyCode, &[u8]), Unread>
     ensures { Gives (λ r. Got (r.0.frame_words, r.0.code) r.1.now) result (read_code bytes.now) }
 {
-    let (frame_words, rest) = take_number(bytes)?;
+    let (frame_words, rest) = taken!(take_number(bytes));
     made!(code = take_list(alloc, rest) => BodyCode { frame_words, code })
 }
 
@@ -337,7 +350,7 @@ fn take_classes(
 fn take_text(bytes: &[u8]) -> Result<(&[u8], &[u8]), Unread>
     ensures { Gives (λ r. Got r.0.now r.1.now) result (read_text bytes.now) }
 {
-    let (count, rest) = take_number(bytes)?;
+    let (count, rest) = taken!(take_number(bytes));
     let count = count as usize;
     if rest.len() < count {
         return Err(Unread::BadByte { left: 0 });
@@ -364,21 +377,25 @@ fn add_name(names: &mut Names, twice: Option<u32>, text: &[u8]) -> Result<Option
     }
 }
 
-/// Takes the table of names. It also returns the place of the first text that equals an earlier one, if any.
+/// Takes the number of names, and adds the names to this empty table.
+/// It returns the place of the first text that equals an earlier one, if any.
 /// The table then has only the texts before that one.
-fn take_names(alloc: Global, bytes: &[u8]) -> Result<(Names, Option<u32>, &[u8]), Unread>
-    ensures given { IfOk result (λ r. (texts : texts_list Text) × (read_list read_text bytes.now ≡ Got texts r.2.now) × IsTable texts r.0 r.1) }
+fn take_names<'a>(names: &mut Names, bytes: &'a [u8]) -> Result<(Option<u32>, &'a [u8]), Unread>
+    requires { names.old ≡ [] }
+    ensures given { IfOk result (λ r. (texts : texts_list Text) × (read_list read_text bytes.now ≡ Got texts r.1.now) × IsTable texts names.new r.0) }
     ensures stops { IfErr result (λ e. Stops e (read_list read_text bytes.now)) }
 {
-    let (count, mut rest) = take_number(bytes)?;
-    let mut names = Names::make(alloc);
+    let (count, mut rest) = taken!(take_number(bytes));
     let mut twice = None;
     for _ in 0..count {
-        let (text, behind) = take_text(rest)?;
-        twice = add_name(&mut names, twice, text)?;
+        let (text, behind) = taken!(take_text(rest));
+        let Ok(found) = add_name(names, twice, text) else {
+            return Err(Unread::Memory);
+        };
+        twice = found;
         rest = behind;
     }
-    Ok((names, twice, rest))
+    Ok((twice, rest))
 }
 
 /// Takes the expected bytes, and stops at the first other byte.
@@ -387,7 +404,7 @@ fn take_exactly<'a>(expected: &[u8], bytes: &'a [u8]) -> Result<&'a [u8], Unread
 {
     let mut rest = bytes;
     for byte in expected {
-        let (first, behind) = take_byte(rest)?;
+        let (first, behind) = taken!(take_byte(rest));
         if first != *byte {
             return Err(Unread::BadByte { left: rest.len() });
         }
@@ -398,12 +415,13 @@ fn take_exactly<'a>(expected: &[u8], bytes: &'a [u8]) -> Result<&'a [u8], Unread
 
 /// Takes a file. It does not reject duplicate names: it returns the place of the first one, if any.
 fn take_file(alloc: Global, bytes: &[u8]) -> Result<(UnitFile, Option<u32>, &[u8]), Unread>
-    ensures given { IfOk result (λ r. (texts : texts_list Text) × (read_file bytes.now ≡ Got (with_names texts r.0) r.2.now) × IsTable texts r.0.unit.names r.1) }
+    ensures given { IfOk result (λ r. IsFront bytes.now r.0 r.1 r.2.now) }
     ensures stops { IfErr result (λ e. Stops e (read_file bytes.now)) }
 {
-    let rest = take_exactly(b"POOLU\x01", bytes)?;
-    let (names, twice, rest) = take_names(alloc, rest)?;
-    let (classes, kinds, rest) = take_classes(alloc, rest)?;
+    let rest = taken!(take_exactly(b"POOLU\x01", bytes));
+    let mut names = Names::make(alloc);
+    let (twice, rest) = taken!(take_names(&mut names, rest));
+    let (classes, kinds, rest) = taken!(take_classes(alloc, rest));
     let unit = Unit { names, classes };
     let kinds = Kinds { classes: kinds };
     Ok((UnitFile { unit, kinds }, twice, rest))
@@ -418,27 +436,19 @@ fn bad_bytes(bytes: &[u8], left: usize) -> CodeFault
     }
 }
 
-/// Returns the file that was taken off the front of these bytes.
-/// Reports `BadBytes` if bytes are left after the file, and `NameTwice` if its table has a duplicate name.
-fn whole_file(
-    bytes: &[u8],
-    file: UnitFile,
-    twice: Option<u32>,
-    rest: &[u8],
-) -> Result<UnitFile, CodeFault>
-    requires small { length bytes.now ≤ 67108864 }
-    requires given { (texts : texts_list Text) × (read_file bytes.now ≡ Got (with_names texts file) rest.now) × IsTable texts file.unit.names twice }
-    ensures says { IfOk result (λ f. decoded_bytes bytes.now ≡ Says f) }
-    ensures tells { IfErr result (λ e. ReportsDecodeFault e (decoded_bytes bytes.now)) }
-    ensures shaped { IfOk result (λ f. IsShaped f) }
-    ensures short { IfOk result (λ f. IsShort f) }
+/// Reports `BadBytes` if bytes are left after the file that was taken off the front of these bytes,
+/// and `NameTwice` if its table has a duplicate name.
+fn check_whole(bytes: &[u8], twice: Option<u32>, rest: &[u8]) -> Result<(), CodeFault>
+    requires { length bytes.now ≤ 67108864 }
+    ensures says { (file : AFile) → IsFront bytes.now file twice rest.now → OnOk result (decoded_bytes bytes.now ≡ Says file) }
+    ensures tells { (file : AFile) → IsFront bytes.now file twice rest.now → IfErr result (λ e. ReportsDecodeFault e (decoded_bytes bytes.now)) }
 {
     if !rest.is_empty() {
         return Err(bad_bytes(bytes, rest.len()));
     }
     match twice {
         Some(place) => Err(CodeFault::NameTwice { place }),
-        None => Ok(file),
+        None => Ok(()),
     }
 }
 
@@ -455,7 +465,10 @@ pub fn decode(alloc: Global, bytes: &[u8]) -> Result<UnitFile, CodeFault>
     ensures short { IfOk result (λ f. IsShort f) }
 {
     match take_file(alloc, bytes) {
-        Ok((file, twice, rest)) => whole_file(bytes, file, twice, rest),
+        Ok((file, twice, rest)) => match check_whole(bytes, twice, rest) {
+            Ok(()) => Ok(file),
+            Err(fault) => Err(fault),
+        },
         Err(Unread::BadByte { left }) => Err(bad_bytes(bytes, left)),
         Err(Unread::Memory) => Err(CodeFault::Memory),
     }

@@ -1,5 +1,5 @@
 //! Writes the bytes of an object code file.
-ghost use Rattle.std.specs.Prelude.{◌≡◌, ◌≤◌, ◌<◌, ◌^◌, ℕ, [], ◌∷◌, ◌++◌, length, take, option_map, OnOk, OnErr};
+ghost use Rattle.std.specs.Prelude.{◌≡◌, ◌≤◌, ◌<◌, ◌^◌, ℕ, [], ◌∷◌, ◌++◌, length, take, slice_get, Some, option_map, OnOk, OnErr};
 ghost use Rattle.pool_outside.specs.Outside.{Rose, IsProperFront};
 ghost use Rattle.text_scan.specs.Text.{Text};
 ghost use Rattle.object_code.specs.FileBytes.{alternative_bytes, class_bytes, code_bytes, file_bytes, instr_bytes, integer_bytes, items_bytes, kind_bytes, list_bytes, method_bytes, name_bytes};
@@ -150,6 +150,38 @@ fn operator_number(op: Op) -> u8
     }
 }
 
+/// The first byte of an instruction.
+fn instr_number(instr: &Instr) -> u8
+    ensures { slice_get (instr_bytes instr.now) 0 ≡ Some result }
+{
+    match instr {
+        Instr::PushInt(_) => 1,
+        Instr::PushBool(_) => 2,
+        Instr::PushNil => 3,
+        Instr::Jump(_) => 4,
+        Instr::LoadI(_) => 5,
+        Instr::LoadT(_) => 6,
+        Instr::SelfRef => 7,
+        Instr::StoreI(_) => 8,
+        Instr::StoreT(_) => 9,
+        Instr::Oper(_) => 10,
+        Instr::Pop => 11,
+        Instr::Branch(_) => 12,
+        Instr::Loop => 13,
+        Instr::Call(_) => 14,
+        Instr::Ret => 15,
+        Instr::New(_) => 16,
+        Instr::Send { .. } => 17,
+        Instr::Async { .. } => 18,
+        Instr::Write => 19,
+        Instr::WriteText(_) => 20,
+        Instr::Answer { .. } => 21,
+        Instr::Select { .. } => 22,
+        Instr::Halt => 23,
+        Instr::Post => 24,
+    }
+}
+
 impl Item for Instr {
     ghost bytes = { λ i. instr_bytes i };
 
@@ -159,28 +191,29 @@ impl Item for Instr {
         match self {
             Instr::PushInt(value) => put_long(sink, failed, 1, *value),
             Instr::PushBool(value) => put(sink, failed, &[2, *value as u8]),
-            Instr::PushNil => put_byte(sink, failed, 3),
-            Instr::Jump(at) => put_numbered(sink, failed, 4, *at),
-            Instr::LoadI(var) => put_numbered(sink, failed, 5, *var),
-            Instr::LoadT(temp) => put_numbered(sink, failed, 6, *temp),
-            Instr::SelfRef => put_byte(sink, failed, 7),
-            Instr::StoreI(var) => put_numbered(sink, failed, 8, *var),
-            Instr::StoreT(temp) => put_numbered(sink, failed, 9, *temp),
             Instr::Oper(op) => put(sink, failed, &[10, operator_number(*op)]),
-            Instr::Pop => put_byte(sink, failed, 11),
-            Instr::Branch(at) => put_numbered(sink, failed, 12, *at),
-            Instr::Loop => put_byte(sink, failed, 13),
-            Instr::Call(method) => put_numbered(sink, failed, 14, method.0),
-            Instr::Ret => put_byte(sink, failed, 15),
-            Instr::New(class) => put_numbered(sink, failed, 16, class.0),
-            Instr::Send { method, count } => put_sent(sink, failed, 17, *method, *count),
-            Instr::Async { method, count } => put_sent(sink, failed, 18, *method, *count),
-            Instr::Write => put_byte(sink, failed, 19),
-            Instr::WriteText(text) => put_numbered(sink, failed, 20, text.0),
+            Instr::Jump(number)
+            | Instr::LoadI(number)
+            | Instr::LoadT(number)
+            | Instr::StoreI(number)
+            | Instr::StoreT(number)
+            | Instr::Branch(number) => put_numbered(sink, failed, instr_number(self), *number),
+            Instr::Call(name) | Instr::New(name) | Instr::WriteText(name) => {
+                put_numbered(sink, failed, instr_number(self), name.0)
+            }
+            Instr::Send { method, count } | Instr::Async { method, count } => {
+                put_sent(sink, failed, instr_number(self), *method, *count)
+            }
             Instr::Answer { names } => put_listed(sink, failed, 21, names.items()),
             Instr::Select { alts } => put_listed(sink, failed, 22, alts.items()),
-            Instr::Halt => put_byte(sink, failed, 23),
-            Instr::Post => put_byte(sink, failed, 24),
+            Instr::PushNil
+            | Instr::SelfRef
+            | Instr::Pop
+            | Instr::Loop
+            | Instr::Ret
+            | Instr::Write
+            | Instr::Halt
+            | Instr::Post => put_byte(sink, failed, instr_number(self)),
         }
     }
 }

@@ -222,28 +222,28 @@ fn put_operands<K: Sink>(names: &Names, sink: &mut K, failed: &mut bool, instr: 
     match instr {
         Instr::PushInt(value) => put_integer(sink, failed, *value),
         Instr::PushBool(value) => put_word(sink, failed, truth(*value)),
-        Instr::PushNil => put(sink, failed, b""),
-        Instr::Jump(at) => put_number(sink, failed, *at),
-        Instr::LoadI(var) => put_number(sink, failed, *var),
-        Instr::LoadT(temp) => put_number(sink, failed, *temp),
-        Instr::SelfRef => put(sink, failed, b""),
-        Instr::StoreI(var) => put_number(sink, failed, *var),
-        Instr::StoreT(temp) => put_number(sink, failed, *temp),
+        Instr::Jump(number)
+        | Instr::LoadI(number)
+        | Instr::LoadT(number)
+        | Instr::StoreI(number)
+        | Instr::StoreT(number)
+        | Instr::Branch(number) => put_number(sink, failed, *number),
         Instr::Oper(op) => put_word(sink, failed, operator(*op)),
-        Instr::Pop => put(sink, failed, b""),
-        Instr::Branch(at) => put_number(sink, failed, *at),
-        Instr::Loop => put(sink, failed, b""),
-        Instr::Call(method) => put_name(names, sink, failed, *method),
-        Instr::Ret => put(sink, failed, b""),
-        Instr::New(class) => put_name(names, sink, failed, *class),
-        Instr::Send { method, count } => put_message(names, sink, failed, *method, *count),
-        Instr::Async { method, count } => put_message(names, sink, failed, *method, *count),
-        Instr::Write => put(sink, failed, b""),
+        Instr::Call(name) | Instr::New(name) => put_name(names, sink, failed, *name),
+        Instr::Send { method, count } | Instr::Async { method, count } => {
+            put_message(names, sink, failed, *method, *count)
+        }
         Instr::WriteText(text) => put_quoted(names, sink, failed, *text),
         Instr::Answer { names: ids } => put_spaced(names, sink, failed, ids.items()),
         Instr::Select { alts } => put_alternatives(names, sink, failed, alts.items()),
-        Instr::Halt => put(sink, failed, b""),
-        Instr::Post => put(sink, failed, b""),
+        Instr::PushNil
+        | Instr::SelfRef
+        | Instr::Pop
+        | Instr::Loop
+        | Instr::Ret
+        | Instr::Write
+        | Instr::Halt
+        | Instr::Post => {}
     }
 }
 

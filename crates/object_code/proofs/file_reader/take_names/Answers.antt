@@ -3,8 +3,8 @@ use Rattle.object_code.proofs.file_reader.take_names.Goals as goal
 
 pub loop-preserved : goal.loop-preserved
 loop-preserved c =
-    taken_on c.args.bytes.now c.loop.rest.now c.in_ok-text.behind.now c.in_ok-text.text.now c.in_ok-count.count c.loop.counter c.loop.names c.add_name.new.names c.loop.twice c.in_ok-twice.twice
-    c.loop-test.true c.in_ok-text.ensures c.loop.invariant c.in_ok-twice.ensures.table c.in_ok-twice.ensures.size
+    taken_on c.args.bytes.now c.loop.rest.now c.in-Ok-take_text.taken.1.now c.in-Ok-take_text.taken.0.now c.in-Ok.taken.0 c.loop.counter c.loop.names c.add_name.new.names c.loop.twice c.in-Ok-add_name.found
+    c.loop-test.true c.in-Ok-take_text.ensures c.loop.invariant c.in-Ok-add_name.ensures.table c.in-Ok-add_name.ensures.size
 
 pub returns-clause-given : goal.returns-clause-given
-returns-clause-given c = taken_all c.args.bytes.now c.loop.rest.now c.in_ok-count.count c.loop.counter c.loop.names c.loop.twice c.loop-test.false c.loop.invariant
+returns-clause-given c = taken_all c.args.bytes.now c.loop.rest.now c.in-Ok.taken.0 c.loop.counter c.loop.names c.loop.twice c.loop-test.false c.loop.invariant
