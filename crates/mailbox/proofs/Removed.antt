@@ -9,14 +9,13 @@ use Rattle.run_types.specs.Tables.{Each}
 use Rattle.run_types.specs.declared.types.NameId.{NameId}
 use Rattle.mailbox.specs.declared.Message.{Message}
 use Rattle.mailbox.specs.declared.lanes.Stamped.{Stamped}
-use Rattle.mailbox.specs.Lanes.{shared, put_in, in_order, joined, of_slot, messages, box_in, Follows, IsChain, IsNear, times, rank_in, IsKept}
+use Rattle.mailbox.specs.Lanes.{shared, put_in, in_order, joined, of_slot, messages, box_in, Follows, IsChain, IsNear, times, rank_in, IsEarliest, IsNone, IsKept, Named}
 use Rattle.mailbox.specs.Mail.{is_named}
 use Rattle.mailbox.proofs.Joined.{each_left, each_right, each_both, each_map, each_two, each_kept, Around, around, joined_beyond, each_joined, times_append, none_times}
 use Rattle.mailbox.proofs.Kept.{for_slot, of_keep, of_skip, each_of, box_same, at_changed, Changes, changes, late_changes}
 use Rattle.mailbox.proofs.Order.{in_order_middle, each_in_order, Stands, stands, IsRising, in_order_rising, rising_after}
 use Rattle.mailbox.proofs.Places.{position_at, removed, there as here_is}
 use Rattle.mailbox.proofs.Ranks.{rank_early, rank_append, rank_all, rank_none, rank_same, for_the_slot, one_more_at_most}
-use Rattle.mailbox.proofs.Search.{IsBest, IsNone}
 use Rattle.mailbox.proofs.Taken.{Takes, takes_first, takes_late, each_message, cut}
 
 module _ (l : List (List Stamped)) (cells next objects to : ℕ) (k : IsKept l cells next objects) (slot : to < objects) (names : List NameId) where
@@ -148,7 +147,7 @@ module _ (l : List (List Stamped)) (cells next objects to : ℕ) (k : IsKept l c
           (λ s ne. box_same l without n s (ap (of_slot s) all_new ∙ sym (of_skip s former x others (λ e. ne (sym e ∙ to_is))) ∙ sym (ap (of_slot s) all_old)) (late_kept s))
           (omega (arith, one_fewer, ap length is, length-append pre (x ∷ rest), length-append pre rest))
 
-  module _ (b : ℕ × ℕ) (best : IsBest l n (λ q x. (x.to ≡ to) × (is_named names x.message.method ≡ true)) b) where
+  module _ (b : ℕ × ℕ) (best : IsEarliest l n (Named to names) b) where
     abbrev head : Stamped
     head = best.first
 
@@ -304,7 +303,7 @@ module _ (l : List (List Stamped)) (cells next objects to : ℕ) (k : IsKept l c
 
   -- ---- from a late queue
 
-  module _ (none : IsNone l n (λ q x. (x.to ≡ to) × (is_named names x.message.method ≡ true))) where
+  module _ (none : IsNone l n (Named to names)) where
     abbrev early : List Stamped
     early = in_order (of_slot to (joined n l))
 

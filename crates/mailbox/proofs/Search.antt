@@ -1,34 +1,23 @@
--- What is found among the front messages of the shared queues is the first of the messages that are looked for.
-use Rattle.std.proofs.Common.{◌≡◌, ℕ, zero, suc, ◌+◌, ◌<◌, ◌≤◌, ◌==◌, ◌&&◌, ◌||◌, ltb, cond, Bool, true, false, ◌⊎◌, inl, inr, List, [], ◌∷◌, length, get_or, take, MatchOption, Option, Some, None, refl, sym, ap, ◌∙◌, subst, arith, add-one}
+-- The earliest of the messages that are wanted is found among the front messages of the shared queues.
+use Rattle.std.proofs.Common.{◌≡◌, ℕ, ◌+◌, ◌<◌, ◌≤◌, ◌==◌, ◌&&◌, ◌||◌, ltb, cond, Bool, true, false, ◌⊎◌, inl, inr, List, [], ◌∷◌, length, get_or, take, Option, Some, None, refl, sym, ap, ◌∙◌, subst, arith}
 use Rattle.std.proofs.lemmas.Bool.{cases_eq, ltb-true, ltb-false, eqb-true, eq-eqb, and_parts, and_from, or_cases}
 use Rattle.std.proofs.lemmas.List.Folds.{list_any_more}
-use Rattle.std.proofs.lemmas.List.{take_all}
 use Rattle.run_types.specs.Tables.{Each}
 use Rattle.run_types.specs.declared.types.NameId.{NameId}
 use Rattle.mailbox.specs.declared.lanes.Stamped.{Stamped}
-use Rattle.mailbox.specs.Lanes.{shared, home_of, has_key, Follows, IsChain, IsNear, found_at, better_of, near_of, earliest_of}
+use Rattle.mailbox.specs.Lanes.{shared, home_of, has_key, Follows, IsChain, IsNear, IsFound, Keyed, Named, found_at, better_of}
 use Rattle.mailbox.specs.Mail.{is_named}
 use Rattle.mailbox.proofs.Joined.{each_map, each_two}
 
+-- the messages with a key in k queues from `home` on
+abbrev pub Within : ℕ → ℕ → ℕ → ℕ → ℕ → Stamped → Type 0
+Within home to name k q x = (has_key to name x ≡ true) × (home ≤ q) × (q < home + k)
+
 module _ (lists : List (List Stamped)) (n : ℕ) where
-  -- b is the front message of its queue, and the first of those that are wanted in the first n queues
-  pub record IsBest (Wanted : ℕ → Stamped → Type 0) (b : ℕ × ℕ) : Type 0 where
-    pub first : Stamped
-    pub rest : List Stamped
-    pub within : b.0 < n
-    pub is : get_or lists b.0 [] ≡ first ∷ rest
-    pub stamp : first.stamp ≡ b.1
-    pub wanted : Wanted b.0 first
-    pub least : (q : ℕ) → q < n → Each (λ x. Wanted q x → b.1 ≤ x.stamp) (get_or lists q [])
+  abbrev Found : (ℕ → Stamped → Type 0) → Option (ℕ × ℕ) → Type 0
+  Found = IsFound lists n
 
-  -- none in these queues is wanted
-  pub record IsNone (Wanted : ℕ → Stamped → Type 0) : Type 0 where
-    pub none : (q : ℕ) → q < n → Each (λ x. Wanted q x → ⊥) (get_or lists q [])
-
-  abbrev pub IsBestOf : (ℕ → Stamped → Type 0) → Option (ℕ × ℕ) → Type 0
-  IsBestOf Wanted r = MatchOption r (IsNone Wanted) (IsBest Wanted)
-
-  pub best_both : (D E : ℕ → Stamped → Type 0) (r s : Option (ℕ × ℕ)) → IsBestOf D r → IsBestOf E s → IsBestOf (λ q x. D q x ⊎ E q x) (better_of r s)
+  pub best_both : (D E : ℕ → Stamped → Type 0) (r s : Option (ℕ × ℕ)) → Found D r → Found E s → Found (λ q x. D q x ⊎ E q x) (better_of r s)
   best_both D E None None h k = record {
     none = λ q less. each_two (λ x. D q x → ⊥) (λ x. E q x → ⊥) (λ x. (D q x ⊎ E q x) → ⊥) (λ x f g w. elim w [ inl d ↦ f d | inr e ↦ g e ]) (get_or lists q []) (h.none q less) (k.none q less);
   }
@@ -52,7 +41,7 @@ module _ (lists : List (List Stamped)) (n : ℕ) where
   }
   best_both D E (Some a) (Some b) h k = by (ltb b.1 a.1) refl
     where
-      by : (c : Bool) → ltb b.1 a.1 ≡ c → IsBestOf (λ q x. D q x ⊎ E q x) (cond c (Some b) (Some a))
+      by : (c : Bool) → ltb b.1 a.1 ≡ c → Found (λ q x. D q x ⊎ E q x) (cond c (Some b) (Some a))
       by true e = let below : b.1 < a.1 = ltb-true b.1 a.1 e in record {
         first = k.first;
         rest = k.rest;
@@ -75,7 +64,7 @@ module _ (lists : List (List Stamped)) (n : ℕ) where
       }
 
   -- what is wanted may be said in another way
-  pub best_same : (D E : ℕ → Stamped → Type 0) (r : Option (ℕ × ℕ)) → ((q : ℕ) (x : Stamped) → D q x → E q x) → ((q : ℕ) → q < n → Each (λ x. E q x → D q x) (get_or lists q [])) → IsBestOf D r → IsBestOf E r
+  pub best_same : (D E : ℕ → Stamped → Type 0) (r : Option (ℕ × ℕ)) → ((q : ℕ) (x : Stamped) → D q x → E q x) → ((q : ℕ) → q < n → Each (λ x. E q x → D q x) (get_or lists q [])) → Found D r → Found E r
   best_same D E None to from h = record {
     none = λ q less. each_two (λ x. E q x → D q x) (λ x. D q x → ⊥) (λ x. E q x → ⊥) (λ x f g e. g (f e)) (get_or lists q []) (from q less) (h.none q less);
   }
@@ -104,14 +93,14 @@ module _ (lists : List (List Stamped)) (n : ℕ) where
   abbrev Here : ℕ → ℕ → ℕ → ℕ → Stamped → Type 0
   Here q to name r x = (r ≡ q) × (has_key to name x ≡ true)
 
-  found_in : (q to name : ℕ) (xs : List Stamped) → q < n → get_or lists q [] ≡ xs → IsChain xs → IsBestOf (Here q to name) (found_at xs q to name)
+  found_in : (q to name : ℕ) (xs : List Stamped) → q < n → get_or lists q [] ≡ xs → IsChain xs → Found (Here q to name) (found_at xs q to name)
   found_in q to name [] less is chain = record {
     none = λ r below. each_map (λ x. (r ≡ q) → (has_key to name x ≡ true) → ⊥) (λ x. Here q to name r x → ⊥) (λ x f w. f w.0 w.1) (get_or lists r [])
         (each_if (r ≡ q) (λ x. (has_key to name x ≡ true) → ⊥) (get_or lists r []) (λ e. subst (λ l. Each (λ x. (has_key to name x ≡ true) → ⊥) l) (sym is ∙ ap (λ j. get_or lists j []) (sym e)) tt));
   }
   found_in q to name (x ∷ xs) less is chain = by (has_key to name x) refl
     where
-      by : (c : Bool) → has_key to name x ≡ c → IsBestOf (Here q to name) (cond c (Some (q, x.stamp)) None)
+      by : (c : Bool) → has_key to name x ≡ c → Found (Here q to name) (cond c (Some (q, x.stamp)) None)
       by true e = record {
         first = x;
         rest = xs;
@@ -129,82 +118,64 @@ module _ (lists : List (List Stamped)) (n : ℕ) where
             (λ t. cc, each_map (Follows x) (λ y. (has_key to name y ≡ true) → ⊥) (λ y f t. let s = same_key to name x y f in cc) xs chain.0)));
       }
 
-  module _ (chains : (q : ℕ) → q < n → IsChain (get_or lists q [])) where
-    abbrev Within : ℕ → ℕ → ℕ → ℕ → ℕ → Stamped → Type 0
-    Within home to name k q x = (has_key to name x ≡ true) × (home ≤ q) × (q < home + k)
-
-    near_best : (home to name k : ℕ) → home + k ≤ n → IsBestOf (Within home to name k) (near_of lists home to name k)
-    near_best home to name zero le = record { none = λ q less. each_all (λ x. Within home to name 0 q x → ⊥) (λ x w. let a = w.1 in let b = w.2 in absurd (omega (arith, a, b))) (get_or lists q []) }
-    near_best home to name (suc k) le =
-        let less : home + k < n = omega (arith, le) in let q = home + k in
-        let both = best_both (Within home to name k) (Here q to name) (near_of lists home to name k) (found_at (get_or lists q []) q to name)
-        (near_best home to name k (omega (arith, le))) (found_in q to name (get_or lists q []) less refl (chains q less)) in
-        best_same (λ r x. Within home to name k r x ⊎ Here q to name r x) (Within home to name (suc k)) (near_of lists home to name (suc k))
-        (λ r x w. elim w [ inl d ↦ (let b = d.2 in (d.0, d.1, omega (arith, b))) | inr e ↦ (let s = e.0 in (e.1, omega (arith, s), omega (arith, s))) ])
-        (λ r below. each_all (λ x. Within home to name (suc k) r x → (Within home to name k r x ⊎ Here q to name r x)) (λ x w. by r x w (cases r w.1 w.2)) (get_or lists r []))
-        both
-      where
-        cases : (r : ℕ) → home ≤ r → r < home + suc k → (r < home + k) ⊎ (r ≡ home + k)
-        cases r a b = elim (cases_eq r (home + k)) [ inl e ↦ inr e | inr ne ↦ inl (omega (arith, ne, b)) ]
-
-        by : (r : ℕ) (x : Stamped) → Within home to name (suc k) r x → (r < home + k) ⊎ (r ≡ home + k) → (Within home to name k r x ⊎ Here (home + k) to name r x)
-        by r x w (inl a) = inl (w.0, w.1, a)
-        by r x w (inr e) = inr (e, w.0)
-
-module _ (lists : List (List Stamped)) (cells next : ℕ) (chains : (q : ℕ) → q < shared cells → IsChain (get_or lists q [])) (near : (q : ℕ) → q < shared cells → Each (IsNear cells next q) (get_or lists q []))
-    (fits : (to name : ℕ) → home_of cells to name + 8 ≤ shared cells) where
-  -- the messages with a key
-  abbrev Keyed : ℕ → ℕ → ℕ → Stamped → Type 0
-  Keyed to name q x = has_key to name x ≡ true
-
-  keyed_best : (to name : ℕ) → IsBestOf lists (shared cells) (Keyed to name) (near_of lists (home_of cells to name) to name 8)
-  keyed_best to name =
-      let home = home_of cells to name in
-      best_same lists (shared cells) (Within lists (shared cells) chains home to name 8) (Keyed to name) (near_of lists home to name 8) (λ q x w. w.0)
-      (λ q less. each_map (IsNear cells next q) (λ x. Keyed to name q x → Within lists (shared cells) chains home to name 8 q x)
-      (λ x m t. let e = same_home x t in (t, subst (λ h. h ≤ q) e m.0, subst (λ h. q < h + 8) e m.1)) (get_or lists q []) (near q less))
-      (near_best lists (shared cells) chains home to name 8 (fits to name))
+  -- one more queue
+  pub near_more : ((q : ℕ) → q < n → IsChain (get_or lists q [])) → (home to name k : ℕ) (r : Option (ℕ × ℕ)) → home + k < n → Found (Within home to name k) r
+      → Found (Within home to name (k + 1)) (better_of r (found_at (get_or lists (home + k) []) (home + k) to name))
+  near_more chains home to name k r less h =
+      let q = home + k in
+      let one = found_at (get_or lists q []) q to name in
+      best_same (λ j x. Within home to name k j x ⊎ Here q to name j x) (Within home to name (k + 1)) (better_of r one)
+      (λ j x w. elim w [ inl d ↦ (let b = d.2 in (d.0, d.1, omega (arith, b))) | inr e ↦ (let s = e.0 in (e.1, omega (arith, s), omega (arith, s))) ])
+      (λ j below. each_all (λ x. Within home to name (k + 1) j x → (Within home to name k j x ⊎ Here q to name j x)) (λ x w. by j x w (cases j w.1 w.2)) (get_or lists j []))
+      (best_both (Within home to name k) (Here q to name) r one h (found_in q to name (get_or lists q []) less refl (chains q less)))
     where
-      same_home : (x : Stamped) → has_key to name x ≡ true → home_of cells x.to x.message.method.0 ≡ home_of cells to name
-      same_home x t =
-          let parts = and_parts (x.to == to) (x.message.method.0 == name) t in
-          ap (λ j. home_of cells j x.message.method.0) (eqb-true x.to to parts.0) ∙ ap (λ j. home_of cells to j) (eqb-true x.message.method.0 name parts.1)
+      cases : (j : ℕ) → home ≤ j → j < home + (k + 1) → (j < home + k) ⊎ (j ≡ home + k)
+      cases j a b = elim (cases_eq j (home + k)) [ inl e ↦ inr e | inr ne ↦ inl (omega (arith, ne, b)) ]
 
-  -- the messages to a slot that call one of the names
-  abbrev pub Named : ℕ → List NameId → ℕ → Stamped → Type 0
-  Named to names q x = (x.to ≡ to) × (is_named names x.message.method ≡ true)
-
-  abbrev name_at : List NameId → ℕ → ℕ
-  name_at names k = (get_or names k (record { 0 = 0 })).0
+      by : (j : ℕ) (x : Stamped) → Within home to name (k + 1) j x → (j < home + k) ⊎ (j ≡ home + k) → (Within home to name k j x ⊎ Here (home + k) to name j x)
+      by j x w (inl a) = inl (w.0, w.1, a)
+      by j x w (inr e) = inr (e, w.0)
 
   or_second : (x y : Bool) → y ≡ true → (x || y) ≡ true
   or_second true y e = refl
   or_second false y e = e
 
-  named_more : (names : List NameId) (k : ℕ) (m : NameId) → k < length names → is_named (take (suc k) names) m ≡ (is_named (take k names) m || (name_at names k == m.0))
-  named_more names k m less = ap (λ j. is_named (take j names) m) (sym (add-one k)) ∙ list_any_more (λ (n : NameId). n.0 == m.0) names k (record { 0 = 0 }) less
-
-  named_best : (to : ℕ) (names : List NameId) (k : ℕ) → k ≤ length names → IsBestOf lists (shared cells) (Named to (take k names)) (earliest_of lists cells to names k)
-  named_best to names zero le = record { none = λ q less. each_all lists (shared cells) (λ x. Named to [] q x → ⊥) (λ x w. let e = w.1 in cc) (get_or lists q []) }
-  named_best to names (suc k) le =
-      let name = name_at names k in let less : k < length names = omega (arith, le) in
-      best_same lists (shared cells) (λ q x. Named to (take k names) q x ⊎ Keyed to name q x) (Named to (take (suc k) names)) (earliest_of lists cells to names (suc k))
+  -- one more name
+  pub named_more : (to : ℕ) (names : List NameId) (k : ℕ) (d : NameId) (r s : Option (ℕ × ℕ)) → k < length names → Found (Named to (take k names)) r → Found (Keyed to (get_or names k d).0) s
+      → Found (Named to (take (k + 1) names)) (better_of r s)
+  named_more to names k d r s less h one =
+      best_same (λ q x. Named to (take k names) q x ⊎ Keyed to name q x) (Named to (take (k + 1) names)) (better_of r s)
       (λ q x w. elim w [
-        | inl d ↦ (d.0, named_more names k x.message.method less ∙ ap (λ b. b || (name == x.message.method.0)) d.1)
+        | inl g ↦ (g.0, more x.message.method ∙ ap (λ b. b || (name == x.message.method.0)) g.1)
         | inr e ↦ (let parts = and_parts (x.to == to) (x.message.method.0 == name) e in (
           eqb-true x.to to parts.0,
-          named_more names k x.message.method less
+          more x.message.method
               ∙ or_second (is_named (take k names) x.message.method) (name == x.message.method.0) (eq-eqb name x.message.method.0 (sym (eqb-true x.message.method.0 name parts.1))),
         ))
       ])
-      (λ q below. each_all lists (shared cells) (λ x. Named to (take (suc k) names) q x → (Named to (take k names) q x ⊎ Keyed to name q x))
-      (λ x w. by q x w (or_cases (is_named (take k names) x.message.method) (name == x.message.method.0) (sym (named_more names k x.message.method less) ∙ w.1))) (get_or lists q []))
-      (best_both lists (shared cells) (Named to (take k names)) (Keyed to name) (earliest_of lists cells to names k) (near_of lists (home_of cells to name) to name 8) (named_best to names k (omega (arith, le))) (keyed_best to name))
+      (λ q below. each_all (λ x. Named to (take (k + 1) names) q x → (Named to (take k names) q x ⊎ Keyed to name q x))
+      (λ x w. by q x w (or_cases (is_named (take k names) x.message.method) (name == x.message.method.0) (sym (more x.message.method) ∙ w.1))) (get_or lists q []))
+      (best_both (Named to (take k names)) (Keyed to name) r s h one)
     where
-      by : (q : ℕ) (x : Stamped) → Named to (take (suc k) names) q x → (is_named (take k names) x.message.method ≡ true) ⊎ ((name_at names k == x.message.method.0) ≡ true) → Named to (take k names) q x ⊎ Keyed to (name_at names k) q x
-      by q x w (inl a) = inl (w.0, a)
-      by q x w (inr e) = inr (and_from (x.to == to) (x.message.method.0 == name_at names k) (eq-eqb x.to to w.0) (eq-eqb x.message.method.0 (name_at names k) (sym (eqb-true (name_at names k) x.message.method.0 e))))
+      name : ℕ
+      name = (get_or names k d).0
 
-  -- the first message to a slot that calls one of the names is found
-  pub earliest_best : (to : ℕ) (names : List NameId) → IsBestOf lists (shared cells) (Named to names) (earliest_of lists cells to names (length names))
-  earliest_best to names = subst (λ l. IsBestOf lists (shared cells) (Named to l) (earliest_of lists cells to names (length names))) (take_all (length names) names (omega arith)) (named_best to names (length names) (omega arith))
+      more : (m : NameId) → is_named (take (k + 1) names) m ≡ (is_named (take k names) m || (name == m.0))
+      more m = list_any_more (λ (x : NameId). x.0 == m.0) names k d less
+
+      by : (q : ℕ) (x : Stamped) → Named to (take (k + 1) names) q x → (is_named (take k names) x.message.method ≡ true) ⊎ ((name == x.message.method.0) ≡ true) → Named to (take k names) q x ⊎ Keyed to name q x
+      by q x w (inl a) = inl (w.0, a)
+      by q x w (inr e) = inr (and_from (x.to == to) (x.message.method.0 == name) (eq-eqb x.to to w.0) (eq-eqb x.message.method.0 name (sym (eqb-true name x.message.method.0 e))))
+
+-- the messages with a key are near its home
+pub keyed_near : (lists : List (List Stamped)) (cells next home to name : ℕ) (r : Option (ℕ × ℕ)) → ((q : ℕ) → q < shared cells → Each (IsNear cells next q) (get_or lists q [])) → home ≡ home_of cells to name
+    → IsFound lists (shared cells) (Within home to name 8) r → IsFound lists (shared cells) (Keyed to name) r
+keyed_near lists cells next home to name r near there h =
+    best_same lists (shared cells) (Within home to name 8) (Keyed to name) r (λ q x w. w.0)
+    (λ q less. each_map (IsNear cells next q) (λ x. Keyed to name q x → Within home to name 8 q x)
+    (λ x m t. let e = same_home x t in (t, subst (λ j. j ≤ q) e m.0, subst (λ j. q < j + 8) e m.1)) (get_or lists q []) (near q less)) h
+  where
+    same_home : (x : Stamped) → has_key to name x ≡ true → home_of cells x.to x.message.method.0 ≡ home
+    same_home x t =
+        let parts = and_parts (x.to == to) (x.message.method.0 == name) t in
+        ap (λ j. home_of cells j x.message.method.0) (eqb-true x.to to parts.0) ∙ ap (λ j. home_of cells to j) (eqb-true x.message.method.0 name parts.1) ∙ sym there

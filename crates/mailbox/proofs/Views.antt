@@ -7,14 +7,13 @@ use Rattle.cell_pool.specs.Lists.{with_list}
 use Rattle.mailbox.specs.declared.Message.{Message}
 use Rattle.mailbox.specs.declared.lanes.Stamped.{Stamped}
 use Rattle.mailbox.specs.declared.lanes.Lanes.{Lanes}
-use Rattle.mailbox.specs.Lanes.{shared, joined, in_order, of_slot, messages, box_in, boxes_in, earliest_of, rank_in, sizes, IsKept}
+use Rattle.mailbox.specs.Lanes.{shared, joined, in_order, of_slot, messages, box_in, boxes_in, rank_in, sizes, IsEarliest, IsFound, IsNone, IsKept, Named}
 use Rattle.mailbox.specs.Mail.{Mail, mail, box_of, with_box, is_named, IsTaken}
 use Rattle.mailbox.specs.Posted.{InShared, InLate, stamped}
 use Rattle.mailbox.proofs.Joined.{each_both}
-use Rattle.mailbox.proofs.Kept.{home_fits, box_at, boxes_length, Changes, posted_shared, posted_late}
+use Rattle.mailbox.proofs.Kept.{box_at, boxes_length, Changes, posted_shared, posted_late}
 use Rattle.mailbox.proofs.Places.{position_none, none_passes}
 use Rattle.mailbox.proofs.Removed.{taken_shared, taken_late, early_none, place_shared, early_length}
-use Rattle.mailbox.proofs.Search.{IsBest, IsNone, IsBestOf, earliest_best}
 use Rattle.mailbox.proofs.Taken.{Takes, each_message, place_late, late_below}
 
 pub slot_below : (l : List (List Stamped)) (n objects c to : ℕ) (v : Mail Message) → mail (boxes_in l n objects) c ≡ v → to < length v.boxes → to < objects
@@ -103,19 +102,13 @@ module _ (old : Lanes) (objects to : ℕ) (k : IsKept old.pool.lists old.cells o
   p y = is_named names y.method
 
   abbrev Wanted : ℕ → Stamped → Type 0
-  Wanted q x = (x.to ≡ to) × (is_named names x.message.method ≡ true)
+  Wanted = Named to names
 
-  earliest : (r : Option (ℕ × ℕ)) → r ≡ earliest_of l old.cells to names (length names) → IsBestOf l n Wanted r
-  earliest r e = subst (λ s. IsBestOf l n Wanted s) (sym e) (earliest_best l old.cells old.next k.chains k.near (home_fits old.cells) to names)
-
-  pub within : (b : ℕ × ℕ) → Some b ≡ earliest_of l old.cells to names (length names) → b.0 < length l
-  within b e = let best = earliest (Some b) e in let w = best.within in omega (arith, w, k.count)
+  pub within : (b : ℕ × ℕ) → IsEarliest l n Wanted b → b.0 < length l
+  within b best = let w = best.within in omega (arith, w, k.count)
 
   -- it is taken from a shared queue
-  module _ (b : ℕ × ℕ) (e : Some b ≡ earliest_of l old.cells to names (length names)) (new : Lanes) (is : new ≡ record old { pool = with_list old.pool b.0 (drop 1 (get_or l b.0 [])) }) where
-    best : IsBest l n Wanted b
-    best = earliest (Some b) e
-
+  module _ (b : ℕ × ℕ) (best : IsEarliest l n Wanted b) (new : Lanes) (is : new ≡ record old { pool = with_list old.pool b.0 (drop 1 (get_or l b.0 [])) }) where
     pop_seen : IsSeen old new objects to (box_in (set l b.0 best.rest) n to)
     pop_seen =
         seen old new objects to (box_in (set l b.0 best.rest) n to) (set l b.0 best.rest) old.next (taken_shared l old.cells old.next objects to k slot names b best).1 refl
@@ -131,14 +124,11 @@ module _ (old : Lanes) (objects to : ℕ) (k : IsKept old.pool.lists old.cells o
         (taken_shared l old.cells old.next objects to k slot names b best).0 (box_view l n objects old.pool.cells to v g slot) (f ∙ ap (λ z. option_map (λ (x : Stamped). x.message) (slice_get z 0)) best.is)
         (seen_view old new objects to (box_in (set l b.0 best.rest) n to) v pop_seen g)
 
-  pub first_shared : (b : ℕ × ℕ) → Some b ≡ earliest_of l old.cells to names (length names) → (v : Mail Message) → mail (boxes_in l n objects) old.pool.cells ≡ v → (r : ℕ) → r ≡ rank_in to b.1 (joined n l) → Some r ≡ position p (box_of v to)
-  first_shared b e v g r h = ap Some h ∙ sym (ap (position p) (box_view l n objects old.pool.cells to v g slot) ∙ place_shared l old.cells old.next objects to k slot names b (earliest (Some b) e))
+  pub first_shared : (b : ℕ × ℕ) → IsEarliest l n Wanted b → (v : Mail Message) → mail (boxes_in l n objects) old.pool.cells ≡ v → (r : ℕ) → r ≡ rank_in to b.1 (joined n l) → Some r ≡ position p (box_of v to)
+  first_shared b best v g r h = ap Some h ∙ sym (ap (position p) (box_view l n objects old.pool.cells to v g slot) ∙ place_shared l old.cells old.next objects to k slot names b best)
 
   -- it is taken from the late queue
-  module _ (e : None ≡ earliest_of l old.cells to names (length names)) where
-    none : IsNone l n Wanted
-    none = earliest None e
-
+  module _ (none : IsNone l n Wanted) where
     pub late_within : (i : ℕ) → Some i ≡ position (λ (x : Stamped). p x.message) (get_or l (n + to) []) → i < length (get_or l (n + to) [])
     late_within i f = let t = taken_late l old.cells old.next objects to k slot names none i (sym f) in slice_get_within (get_or l (n + to) []) i t.0 t.1
 
@@ -191,11 +181,11 @@ module _ (old : Lanes) (objects to : ℕ) (k : IsKept old.pool.lists old.cells o
     has_late v g (Some i) f =
         let t = taken_late l old.cells old.next objects to k slot names none i (sym f) in sym (ap is_some (ap (position p) (box_view l n objects old.pool.cells to v g slot) ∙ t.2.at))
 
-  pub has_shared : (v : Mail Message) → mail (boxes_in l n objects) old.pool.cells ≡ v → (r : Option (ℕ × ℕ)) → r ≡ earliest_of l old.cells to names (length names) → is_some r ≡ true → true ≡ is_some (position p (box_of v to))
+  pub has_shared : (v : Mail Message) → mail (boxes_in l n objects) old.pool.cells ≡ v → (r : Option (ℕ × ℕ)) → IsFound l n Wanted r → is_some r ≡ true → true ≡ is_some (position p (box_of v to))
   has_shared v g None f h = cc
   has_shared v g (Some b) f h =
-      let t = (taken_shared l old.cells old.next objects to k slot names b (earliest (Some b) f)).0 in sym (ap is_some (ap (position p) (box_view l n objects old.pool.cells to v g slot) ∙ t.at))
+      let t = (taken_shared l old.cells old.next objects to k slot names b f).0 in sym (ap is_some (ap (position p) (box_view l n objects old.pool.cells to v g slot) ∙ t.at))
 
-  pub has_none : (r : Option (ℕ × ℕ)) → r ≡ earliest_of l old.cells to names (length names) → is_some r ≡ false → None ≡ earliest_of l old.cells to names (length names)
+  pub has_none : (r : Option (ℕ × ℕ)) → IsFound l n Wanted r → is_some r ≡ false → IsNone l n Wanted
   has_none None f h = f
   has_none (Some b) f h = cc

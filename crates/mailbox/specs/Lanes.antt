@@ -1,10 +1,11 @@
 -- The queues in which a mailbox keeps its messages, and what the mailbox sees of them.
-use Rattle.std.specs.Prelude.{◌≡◌, ℕ, suc, zero, ◌+◌, ◌*◌, ◌%◌, ◌/◌, ◌<◌, ◌≤◌, ◌==◌, ◌&&◌, ltb, cond, Bool, true, List, [], ◌∷◌, ◌++◌, length, get_or, map, Option, Some, None}
+use Rattle.std.specs.Prelude.{◌≡◌, ℕ, suc, zero, ◌+◌, ◌*◌, ◌%◌, ◌/◌, ◌<◌, ◌≤◌, ◌==◌, ◌&&◌, ltb, cond, Bool, true, List, [], ◌∷◌, ◌++◌, length, get_or, map, Option, Some, None, MatchOption}
 use Rattle.std.specs.List.{filter, range_with_len}
 use Rattle.run_types.specs.Tables.{Each}
 use Rattle.run_types.specs.declared.types.NameId.{NameId}
 use Rattle.mailbox.specs.declared.Message.{Message}
 use Rattle.mailbox.specs.declared.lanes.Stamped.{Stamped}
+use Rattle.mailbox.specs.Mail.{is_named}
 
 -- the number of queues that slots share, for so many cells
 abbrev pub shared : ℕ → ℕ
@@ -92,6 +93,33 @@ pub record IsKept (lists : List (List Stamped)) (cells next objects : ℕ) : Typ
 
 -- ---- how a message is found
 
+module _ (lists : List (List Stamped)) (n : ℕ) where
+  -- b is a queue and the stamp of its front message, which is wanted, and the earliest of all that are wanted in the first n queues
+  pub record IsEarliest (Wanted : ℕ → Stamped → Type 0) (b : ℕ × ℕ) : Type 0 where
+    pub first : Stamped
+    pub rest : List Stamped
+    pub within : b.0 < n
+    pub is : get_or lists b.0 [] ≡ first ∷ rest
+    pub stamp : first.stamp ≡ b.1
+    pub wanted : Wanted b.0 first
+    pub least : (q : ℕ) → q < n → Each (λ x. Wanted q x → b.1 ≤ x.stamp) (get_or lists q [])
+
+  -- no message in the first n queues is wanted
+  pub record IsNone (Wanted : ℕ → Stamped → Type 0) : Type 0 where
+    pub none : (q : ℕ) → q < n → Each (λ x. Wanted q x → ⊥) (get_or lists q [])
+
+  -- the earliest message that is wanted is at the front of a queue, and is found, or none is wanted
+  abbrev pub IsFound : (ℕ → Stamped → Type 0) → Option (ℕ × ℕ) → Type 0
+  IsFound Wanted r = MatchOption r (IsNone Wanted) (IsEarliest Wanted)
+
+-- the messages of a method to a slot
+abbrev pub Keyed : ℕ → ℕ → ℕ → Stamped → Type 0
+Keyed to method q x = has_key to method x ≡ true
+
+-- the messages to a slot that call one of the methods
+abbrev pub Named : ℕ → List NameId → ℕ → Stamped → Type 0
+Named to names q x = (x.to ≡ to) × (is_named names x.message.method ≡ true)
+
 -- the front message of queue q, by the queue and the stamp, if it has the key
 abbrev pub found_at : List Stamped → ℕ → ℕ → ℕ → Option (ℕ × ℕ)
 found_at [] q to method = None
@@ -102,17 +130,6 @@ abbrev pub better_of : Option (ℕ × ℕ) → Option (ℕ × ℕ) → Option (�
 better_of None b = b
 better_of (Some a) None = Some a
 better_of (Some a) (Some b) = cond (ltb b.1 a.1) (Some b) (Some a)
-
--- the best front message with the key in n queues from `home` on
-abbrev pub near_of : List (List Stamped) → ℕ → ℕ → ℕ → ℕ → Option (ℕ × ℕ)
-near_of lists home to method zero = None
-near_of lists home to method (suc n) = better_of (near_of lists home to method n) (found_at (get_or lists (home + n) []) (home + n) to method)
-
--- the best front message to a slot that calls one of the first n names
-abbrev pub earliest_of : List (List Stamped) → ℕ → ℕ → List NameId → ℕ → Option (ℕ × ℕ)
-earliest_of lists cells to names zero = None
-earliest_of lists cells to names (suc n) = better_of (earliest_of lists cells to names n)
-    (near_of lists (home_of cells to (get_or names n (record { 0 = 0 })).0) to (get_or names n (record { 0 = 0 })).0 8)
 
 -- whether a queue may take a message with the key: it is empty, or its front message has the key
 abbrev pub may_hold : List Stamped → ℕ → ℕ → Bool

@@ -3,7 +3,7 @@ ghost use Rattle.std.specs.Prelude.{◌≡◌, ℕ, ◌+◌, ◌-◌, ◌*◌, �
 ghost use Rattle.cell_pool.specs.Lists.{pool, lengths, free_of, with_list};
 ghost use Rattle.mailbox.specs.declared.lanes.Stamped.{Stamped as OneStamped};
 ghost use Rattle.run_types.specs.Tables.{Each};
-ghost use Rattle.mailbox.specs.Lanes.{shared, home_of, found_at, better_of, near_of, earliest_of, may_hold, IsChain, rank_in, joined, sizes};
+ghost use Rattle.mailbox.specs.Lanes.{shared, home_of, found_at, better_of, may_hold, IsChain, IsFound, IsNear, Keyed, Named, rank_in, joined, sizes};
 ghost use Rattle.mailbox.specs.Mail.{is_named};
 ghost use Rattle.mailbox.specs.Posted.{InShared, InLate};
 
@@ -100,8 +100,10 @@ impl Lanes {
 
     /// The first message of a method to a slot in the shared queues.
     fn near(&self, to: u32, method: u32) -> Option<(usize, u64)>
-        requires { shared self.now.cells ≤ length self.now.pool.lists }
-        ensures { result ≡ near_of self.now.pool.lists (home_of self.now.cells to method) to method 8 }
+        requires count { shared self.now.cells ≤ length self.now.pool.lists }
+        requires chains { (q : ℕ) → q < shared self.now.cells → IsChain (get_or self.now.pool.lists q []) }
+        requires near { (q : ℕ) → q < shared self.now.cells → Each (IsNear self.now.cells self.now.next q) (get_or self.now.pool.lists q []) }
+        ensures { IsFound self.now.pool.lists (shared self.now.cells) (Keyed to method) result }
     {
         let home = home(self.cells, to, method);
         let mut best = None;
@@ -113,8 +115,10 @@ impl Lanes {
 
     /// The first message to a slot in the shared queues whose method is one of the names.
     pub(crate) fn earliest(&self, to: u32, names: &[NameId]) -> Option<(usize, u64)>
-        requires { shared self.now.cells ≤ length self.now.pool.lists }
-        ensures { result ≡ earliest_of self.now.pool.lists self.now.cells to names.now (length names.now) }
+        requires count { shared self.now.cells ≤ length self.now.pool.lists }
+        requires chains { (q : ℕ) → q < shared self.now.cells → IsChain (get_or self.now.pool.lists q []) }
+        requires near { (q : ℕ) → q < shared self.now.cells → Each (IsNear self.now.cells self.now.next q) (get_or self.now.pool.lists q []) }
+        ensures { IsFound self.now.pool.lists (shared self.now.cells) (Named to names.now) result }
     {
         let mut best = None;
         for name in names {

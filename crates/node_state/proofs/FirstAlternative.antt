@@ -1,5 +1,5 @@
 -- The first possible alternative.
-use Rattle.std.proofs.Common.{◌≡◌, refl, sym, ap, subst, ◌∙◌, ℕ, zero, suc, ◌+◌, ◌<◌, ◌≤◌, List, [], ◌∷◌, length, drop, Some, None, true, false, if◌then◌else◌, add-one, arith}
+use Rattle.std.proofs.Common.{◌≡◌, refl, sym, ap, subst, ◌∙◌, ℕ, zero, suc, ◌+◌, ◌<◌, List, [], ◌∷◌, length, drop, Some, true, false, if◌then◌else◌, add-one, arith}
 use Rattle.std.specs.Prelude.{slice_get}
 use Rattle.code_semantics.specs.Kinds.{Offered}
 use Rattle.object_interp.specs.Offers.{offer_at}

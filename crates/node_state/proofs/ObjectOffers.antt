@@ -9,9 +9,7 @@ use Rattle.run_types.specs.declared.types.Value.{Value}
 use Rattle.run_types.specs.declared.types.Value.TheVariants as V
 use Rattle.run_types.specs.declared.types.Serves.{Serves}
 use Rattle.run_types.specs.declared.types.Serves.TheVariants as S
-use Rattle.run_types.specs.declared.types.Error.{Error}
 use Rattle.run_types.specs.declared.types.Error.TheVariants.{NilOperand, NoOpenGuard}
-use Rattle.run_types.specs.declared.types.Item.{Item}
 use Rattle.run_types.specs.Values.{Outcome, Gives, Fails, WrongSort, is_bool, is_true, not_bool}
 use Rattle.code_semantics.specs.declared.unit.Instr.{Instr}
 use Rattle.code_semantics.specs.declared.unit.Instr.TheVariants as I

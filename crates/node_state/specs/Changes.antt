@@ -1,5 +1,5 @@
 -- The changes that a step makes to a node: another content of one slot, or one slot more.
-use Rattle.std.specs.Prelude.{◌≡◌, ℕ, List, [], ◌∷◌, ◌++◌, length, Option, Some, None, slice_set}
+use Rattle.std.specs.Prelude.{◌≡◌, ℕ, [], ◌∷◌, ◌++◌, length, Option, Some, None, slice_set}
 use Rattle.run_types.specs.declared.types.Serves.{Serves}
 use Rattle.run_types.specs.declared.types.Serves.TheVariants as S
 use Rattle.code_semantics.specs.declared.unit.Unit.{Unit as Code}

@@ -1,6 +1,7 @@
-use Rattle.std.proofs.Common.{◌≡◌}
-use Rattle.mailbox.specs.Lanes.{earliest_of}
+use Rattle.std.proofs.Common.{take}
+use Rattle.mailbox.specs.Lanes.{shared, IsFound, Named}
 use Rattle.mailbox.proofs.lanes.Lanes.earliest.Given as goal
 
+-- the earliest of the names so far was found
 abbrev pub invariant-loop-name : goal.invariant-loop-name
-invariant-loop-name l = l.best ≡ earliest_of l.self.pool.lists l.self.cells l.to l.names l.name-index
+invariant-loop-name l = IsFound l.self.pool.lists (shared l.self.cells) (Named l.to (take l.name-index l.names)) l.best

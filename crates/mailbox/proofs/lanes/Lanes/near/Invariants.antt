@@ -1,6 +1,7 @@
-use Rattle.std.proofs.Common.{◌≡◌}
-use Rattle.mailbox.specs.Lanes.{near_of}
+use Rattle.mailbox.specs.Lanes.{shared, IsFound}
+use Rattle.mailbox.proofs.Search.{Within}
 use Rattle.mailbox.proofs.lanes.Lanes.near.Given as goal
 
+-- the earliest of the first k queues was found
 abbrev pub invariant-loop-k : goal.invariant-loop-k
-invariant-loop-k l = l.best ≡ near_of l.self.pool.lists l.home l.to l.method l.k
+invariant-loop-k l = IsFound l.self.pool.lists (shared l.self.cells) (Within l.home l.to l.method l.k) l.best
