@@ -1,5 +1,5 @@
 //! Lists of labels.
-ghost use Rattle.std.specs.Prelude.{◌≡◌, ◌+◌, ◌^◌, ◌<◌, ◌∷◌, ◌++◌, [], replicate, IfSome, OnOk};
+ghost use Rattle.std.specs.Prelude.{◌≡◌, ◌+◌, ◌^◌, ◌<◌, ◌∷◌, ◌++◌, [], true, false, IfSome, OnOk, OnErr};
 ghost use Rattle.run_types.specs.declared.types.Label.TheVariants as L;
 ghost use Rattle.label_list.specs.declared.part.Part.TheVariants as P;
 ghost use Rattle.label_list.specs.Parts.{labels_in};
@@ -55,30 +55,38 @@ impl LabelList {
         }
     }
 
-    /// Takes out the last part, if a local transition of this object can be added to it. Returns how many it has, or 0.
-    fn take_last(&mut self, object: u32) -> u32
-        ensures rest { self.old ≡ self.new ++ replicate result (L.Local object) }
-        ensures room { result + 1 < 2 ^ 32 }
+    /// Adds a local transition of this object to the last part, if that has such ones and room for one more. Returns whether
+    /// it did.
+    fn count(&mut self, object: u32) -> bool
+        ensures counted { result ≡ true → self.new ≡ self.old ++ L.Local object ∷ [] }
+        ensures unchanged { result ≡ false → self.new ≡ self.old }
     {
         let Some(last) = self.parts.as_slice().last() else {
-            return 0;
+            return false;
         };
         let Some(times) = has_room(last, object) else {
-            return 0;
+            return false;
         };
         let _last = self.parts.pop();
-        times
+        self.parts.push_reserved(Part::Local {
+            object,
+            times: times + 1,
+        });
+        true
     }
 
-    /// Appends a label. An error means out of memory.
+    /// Appends a label. An error means out of memory, and then the list stays as it was.
     pub fn push(&mut self, label: &Label) -> Result<(), AllocError>
-        ensures { OnOk result (self.new ≡ self.old ++ label.now ∷ []) }
+        ensures ok { OnOk result (self.new ≡ self.old ++ label.now ∷ []) }
+        ensures err { OnErr result (self.new ≡ self.old) }
     {
         let part = match *label {
-            Label::Local { object } => Part::Local {
-                object,
-                times: self.take_last(object) + 1,
-            },
+            Label::Local { object } => {
+                if self.count(object) {
+                    return Ok(());
+                }
+                Part::Local { object, times: 1 }
+            }
             _ => Part::Other(*label),
         };
         self.parts.push(part)?;

@@ -10,7 +10,7 @@ use std::alloc::{AllocError, Global};
 use std::collections::HashMap;
 use std::hash::{FoldHasher, Hasher};
 
-/// Fewer than 2^32 messages, numbered from 0. `latest` has the last number of each hash. A message can have two numbers
+/// At most 2^32 messages, numbered from 0. `latest` has the last number of each hash. A message can have two numbers
 /// after a collision of hashes.
 #[derive(Drop)]
 pub struct Mails {

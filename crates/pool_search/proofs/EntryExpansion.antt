@@ -14,10 +14,12 @@ use Rattle.reachability.specs.Labels.{labels_to_try}
 use Rattle.search_laws.specs.Outcomes.{Passed}
 use Rattle.search_laws.specs.Stubborn.{IsAwaited, is_served}
 use Rattle.search_laws.specs.Tried.{Course, KeepsNothing, AllLeadInto, Follows, IsExpanded, IsLabelTried, LeadsAt, LeadsInto, Every, Those}
-use Rattle.pool_search.specs.VisitedConfigurations.{entry}
+use Rattle.visited_set.specs.VisitedConfigurations.{entry}
 use Rattle.pool_search.specs.Progress.{Entries, AllReached, Grows, HasSearched, IsReachedWith, IsSearchedTo}
-use Rattle.pool_search.specs.Trials.{CanMove, is_asked, IsLedBy, OneLeadsOn, SettlesAt}
-use Rattle.pool_search.proofs.ListGrowth.{each_at, each_more, entry_grown, in_at, labels_grown, led_grown}
+use Rattle.pool_search.specs.Trials.{CanMove, is_asked, OneLeadsOn, SettlesAt}
+use Rattle.visited_set.specs.LedBy.{IsLedBy}
+use Rattle.pool_search.proofs.ListGrowth.{each_at, entry_grown, in_at, labels_grown, led_grown}
+use Rattle.visited_set.proofs.Laws.{each_more}
 use Rattle.pool_search.proofs.RunExtension.{reached_more, reached_on}
 use Rattle.pool_search.proofs.SearchComplete.{searched_grows, searched_next}
 

@@ -1,23 +1,11 @@
-pub mod SortedMaps
-pub mod ObjectNumbers
-pub mod RowLists
-pub mod RowObjects
-pub mod StateTableGrowth
-pub mod WrittenListsGrowth
-pub mod NumberingSteps
-pub mod MessagesLeft
-pub mod NumberingRoundTrip
-mod Rows
 pub mod ListGrowth
 pub mod SearchComplete
 pub mod RunExtension
 pub mod EntryExpansion
-pub mod FailedResults
 pub mod FoundLists
 pub mod OutcomesComplete
 pub mod ConfigurationClass
 pub mod WaiterLaws
-pub mod KnownLeads
 pub mod PartLaws
 pub mod MovedObjects
 pub mod TrialResults

@@ -32,11 +32,6 @@ entry_last es at e i = subst (λ (n : ℕ). slice_get (es ++ e ∷ []) n ≡ Som
     by [] = refl
     by (x ∷ xs) = by xs
 
--- one more at the end
-pub each_more : {X : Type 0} (P : X → Type 0) (xs : List X) (x : X) → Each P xs → P x → Each P (xs ++ x ∷ [])
-each_more P [] x h k = (k, tt)
-each_more P (y ∷ ys) x h k = (h.0, each_more P ys x h.1 k)
-
 -- another property of each
 pub each_weaker : {X : Type 0} (P Q : X → Type 0) → ((x : X) → P x → Q x) → (xs : List X) → Each P xs → Each Q xs
 each_weaker P Q f [] h = tt

@@ -13,11 +13,11 @@ use Rattle.reachability.specs.Search.{after}
 use Rattle.search_laws.specs.Dead.{changes, some_changes}
 use Rattle.search_laws.specs.Tried.{Course, Follows, Stays, GoesBy, states_only}
 use Rattle.object_moves.specs.Followed.{AreChanged, HasMoved, passes}
-use Rattle.pool_search.specs.Courses.{all_followed}
+use Rattle.visited_set.specs.Courses.{all_followed}
 use Rattle.pool_search.specs.Leads.{HasMovedTo, IsEdge}
 use Rattle.pool_search.specs.Progress.{Entries}
-use Rattle.pool_search.specs.Trials.{IsLedBy}
-use Rattle.pool_search.specs.VisitedConfigurations.{entry}
+use Rattle.visited_set.specs.LedBy.{IsLedBy}
+use Rattle.visited_set.specs.VisitedConfigurations.{entry}
 use Rattle.pool_search.proofs.PartLaws.{or_true, part_changed, some_changes_in}
 
 module _ (p : ProgramTree) (k : Course) where

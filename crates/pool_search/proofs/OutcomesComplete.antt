@@ -17,12 +17,12 @@ use Rattle.search_laws.proofs.Laws.{every_end_is_kept_by_choices, ends_alike, at
 use Rattle.pool_search.specs.declared.outcomes.EndKind.{EndKind}
 use Rattle.pool_search.specs.declared.outcomes.EndKind.TheVariants as K
 use Rattle.pool_search.specs.declared.outcomes.Outcome.{Outcome}
-use Rattle.pool_search.specs.VisitedConfigurations.{entry}
+use Rattle.visited_set.specs.VisitedConfigurations.{entry}
 use Rattle.pool_search.specs.FoundOutcomes.{HasOne, IsNoted}
 use Rattle.pool_search.specs.OutcomeTargets.{IsOfKind, IsShown, HasOutcome, HasAllOutcomes, outputs_of}
 use Rattle.pool_search.specs.Trials.{CanMove}
 use Rattle.pool_search.specs.Progress.{Entries, IsReachedWith, IsSearchedTo}
-use Rattle.pool_search.proofs.ListGrowth.{each_more}
+use Rattle.visited_set.proofs.Laws.{each_more}
 use Rattle.pool_search.proofs.RunExtension.{gathers_writes}
 use Rattle.pool_search.proofs.SearchComplete.{visited_all, whole_by_visits}
 

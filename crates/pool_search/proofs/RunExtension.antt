@@ -12,9 +12,9 @@ use Rattle.pool_relation.proofs.Laws.{joined}
 use Rattle.reachability.specs.Outcomes.{written}
 use Rattle.search_laws.specs.Tried.{Course, Follows, Stays, GoesBy, KeepsNothing, with_writes}
 use Rattle.search_laws.proofs.Laws.{silent_keeps_nothing}
-use Rattle.pool_search.specs.declared.scope.Keeps.{Keeps}
-use Rattle.pool_search.specs.declared.scope.Keeps.TheVariants as K
-use Rattle.pool_search.specs.Courses.{all_followed, course_of}
+use Rattle.visited_set.specs.declared.keeps.Keeps.{Keeps}
+use Rattle.visited_set.specs.declared.keeps.Keeps.TheVariants as K
+use Rattle.visited_set.specs.Courses.{all_followed, course_of}
 use Rattle.pool_search.specs.Progress.{gathered, IsReachedWith}
 
 pub run_more : (p : ProgramTree) (c d e : Configuration) (ls : List Label) (l : Label) → run p c ls ≡ Some d → transition p d l ≡ Some e → run p c (ls ++ l ∷ []) ≡ Some e

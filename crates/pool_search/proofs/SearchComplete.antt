@@ -19,7 +19,8 @@ use Rattle.pool_search.specs.Entries.{IsPassedOver}
 use Rattle.pool_search.specs.SearchAnswers.{IsPassedBy}
 use Rattle.pool_search.specs.SearchTargets.{wants_stuck, CountsAsStuck, IsStuckEnd, IsUnwanted, IsFinite}
 use Rattle.pool_search.specs.Progress.{Entries, Grows, IsSearchedTo}
-use Rattle.pool_search.proofs.ListGrowth.{in_grown, tried_grown, each_more, each_weaker, tried_more, each_at}
+use Rattle.pool_search.proofs.ListGrowth.{in_grown, tried_grown, each_weaker, tried_more, each_at}
+use Rattle.visited_set.proofs.Laws.{each_more}
 
 -- the list before the place and the entry there
 pub take_next : (es : Entries) (at : ℕ) (e : Passed) → slice_get es at ≡ Some e → take (at + 1) es ≡ take at es ++ e ∷ []

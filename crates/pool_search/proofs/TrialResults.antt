@@ -1,5 +1,5 @@
 -- No result is two of the results of a trial.
-use Rattle.std.proofs.Common.{◌≡◌, ℕ, Bool, true, false, Result, Ok, Err, Option, Some, None}
+use Rattle.std.proofs.Common.{◌≡◌, ℕ, true, false, Result, Ok, Err}
 use Rattle.pool_search.specs.declared.choices.Trial.{Trial}
 use Rattle.pool_search.specs.declared.choices.Trial.TheVariants as T
 
@@ -20,9 +20,3 @@ over_led r p q = cc
 
 pub failed_not : {T E : Type 0} {e : E} {v : T} (r : Result T E) → r ≡ Err e → r ≡ Ok v → ⊥
 failed_not r p q = cc
-
-pub not_true : {E : Type 0} (r : Result Bool E) → r ≡ Ok false → r ≡ Ok true → ⊥
-not_true r p q = cc
-
-pub some_not : {X E : Type 0} {x : X} (r : Result (Option X) E) → r ≡ Ok (Some x) → r ≡ Ok None → ⊥
-some_not r p q = cc

@@ -1,7 +1,7 @@
 -- What is noted of waiters stays true, and a waiter that the labels of its entries leave as it is, is dead.
 use Rattle.std.proofs.Common.{◌≡◌, ◌⊎◌, inl, inr, refl, sym, ap, ◌∙◌, subst, cond, ℕ, zero, suc, List, [], ◌∷◌, ◌++◌, map, Option, Some, None, Bool, true, false, not, ◌&&◌, ◌||◌, ◌==◌, ◌<◌, ◌≤◌, ◌+◌, length, set, get_or, drop, arith}
 use Rattle.std.specs.Prelude.{IfSome}
-use Rattle.std.specs.List.{filter, list_any, slice_get}
+use Rattle.std.specs.List.{filter, slice_get}
 use Rattle.std.proofs.lemmas.List.{drop_more}
 use Rattle.std.proofs.lemmas.Option.{slice_get_within}
 use Rattle.run_types.specs.declared.types.Item.{Item}
@@ -9,13 +9,11 @@ use Rattle.run_types.specs.declared.types.Label.{Label}
 use Rattle.run_types.specs.Tables.{Each}
 use Rattle.run_types.proofs.Laws.{equals, equal, first, second, neither, given_by, same_some}
 use Rattle.pool_syntax.specs.Terms.{ProgramTree}
-use Rattle.pool_relation.specs.Action.{Object, action}
-use Rattle.pool_relation.specs.Configuration.{Configuration, object_of}
+use Rattle.pool_relation.specs.Configuration.{Configuration}
 use Rattle.pool_relation.specs.Transition.{transition, run}
 use Rattle.pool_relation.proofs.Laws.{joined}
-use Rattle.reachability.specs.Search.{WaitsAt, is_in_call, IsIn, IsInOrder, after}
+use Rattle.reachability.specs.Search.{WaitsAt, IsIn, IsInOrder, after}
 use Rattle.reachability.specs.Labels.{IsAmong, labels_to_try}
-use Rattle.known_names.specs.Awaited.{is_calling}
 use Rattle.search_laws.specs.Renamed.{IsNameless}
 use Rattle.search_laws.specs.Outcomes.{Passed}
 use Rattle.search_laws.specs.Tried.{states_only, state_of}
@@ -25,37 +23,19 @@ use Rattle.search_laws.specs.PutOff.{IsClosedByChoices}
 use Rattle.search_laws.specs.TriedAt.{IsTriedAt, AllThere, SomeThere}
 use Rattle.search_laws.specs.Stubborn.{IsAwaited, is_served}
 use Rattle.search_laws.proofs.Laws.{all_labels, among_those, dead_by_choices, in_the_end_by_places, known_reached, served_keeps_names, unchanged_by, who_is_awaited_is_enough}
-use Rattle.pool_search.specs.Courses.{all_followed}
+use Rattle.visited_set.specs.Courses.{all_followed}
 use Rattle.pool_search.specs.Progress.{Entries, AllInOrder}
-use Rattle.pool_search.specs.VisitedConfigurations.{entry}
+use Rattle.visited_set.specs.VisitedConfigurations.{entry}
 use Rattle.pool_search.specs.Entries.{IsEntryAt}
-use Rattle.pool_search.specs.WaiterLists.{HasWaiter, IsOne, IsOpen, noted, GoesOnBy, IsServed, IsKnown, AreKnown}
+use Rattle.visited_set.specs.WaiterLists.{HasWaiter, IsOne, IsOpen, noted, GoesOnBy}
+use Rattle.pool_search.specs.KnownWaiters.{IsServed, IsKnown, AreKnown}
 use Rattle.pool_search.specs.Leads.{HasMovedTo, IsEdge, LeadsBeside, IsBeside, OneStaysOn, StaysIn, ByAll, ByThose, StaysAt}
 use Rattle.pool_search.specs.Trials.{is_asked}
-use Rattle.pool_search.specs.declared.waiters.Waiter.{Waiter}
+use Rattle.visited_set.specs.declared.waiters.Waiter.{Waiter}
+use Rattle.visited_set.proofs.Laws.{below_or_from, has_more}
 use Rattle.pool_search.proofs.ListGrowth.{each_at, each_weaker}
 
 -- waiters in lists
-
-pub has_more : (g : Bool) (at o : ℕ) (ws vs : List Waiter) → HasWaiter g at o ws → HasWaiter g at o (ws ++ vs)
-has_more g at o [] vs h = absurd h
-has_more g at o (w ∷ ws) vs (inl h) = inl h
-has_more g at o (w ∷ ws) vs (inr h) = inr (has_more g at o ws vs h)
-
-pub has_last : (ws : List Waiter) (w : Waiter) → HasWaiter w.goes_on w.entry w.object (ws ++ w ∷ [])
-has_last [] w = inl (refl, refl, refl)
-has_last (v ∷ ws) w = inr (has_last ws w)
-
-pub has_at : (ws : List Waiter) (i : ℕ) (w : Waiter) → slice_get ws i ≡ Some w → HasWaiter w.goes_on w.entry w.object ws
-has_at [] i w h = absurd (let z : None ≡ Some w = h in cc)
-has_at (v ∷ ws) zero w h =
-    let is : v ≡ w = cc in
-    inl (ap (λ (x : Waiter). x.goes_on) is, ap (λ (x : Waiter). x.entry) is, ap (λ (x : Waiter). x.object) is)
-has_at (v ∷ ws) (suc i) w h = inr (has_at ws i w h)
-
-pub has_found : (ws : List Waiter) (i : ℕ) (w : Waiter) (g : Bool) (at o : ℕ) → slice_get ws i ≡ Some w → w.goes_on ≡ g → w.entry ≡ at → w.object ≡ o → HasWaiter g at o ws
-has_found ws i w g at o h j k l =
-    subst (λ (b : Bool). HasWaiter b at o ws) j (subst (λ (n : ℕ). HasWaiter w.goes_on n o ws) k (subst (λ (n : ℕ). HasWaiter w.goes_on w.entry n ws) l (has_at ws i w h)))
 
 pub each_set : {X : Type 0} (P : X → Type 0) (xs : List X) (i : ℕ) (x : X) → Each P xs → P x → Each P (set xs i x)
 each_set P [] i x h k = tt
@@ -106,15 +86,6 @@ known_at p es [] at o e h k g = absurd k
 known_at p es (w ∷ ws) at o e h (inl k) g =
     subst (IsServed p e.configuration) k.2 (h.0 k.0 e (ap (slice_get es) k.1 ∙ g))
 known_at p es (w ∷ ws) at o e h (inr k) g = known_at p es ws at o e h.1 k g
-
--- a number that is found in a list
-pub one_found : (o : ℕ) (os : List ℕ) → list_any (λ q. q == o) os ≡ true → IsOne o os
-one_found o [] h = absurd (let z : false ≡ true = h in cc)
-one_found o (q ∷ qs) h = by (q == o) refl (one_found o qs) h
-  where
-    by : (b : Bool) → (q == o) ≡ b → (list_any (λ r. r == o) qs ≡ true → IsOne o qs) → (b || list_any (λ r. r == o) qs) ≡ true → IsOne o (q ∷ qs)
-    by true is rest i = inl (equal q o is)
-    by false is rest i = inr (rest i)
 
 -- what is so of each number of a list
 one_of : (P : ℕ → Type 0) (o : ℕ) (os : List ℕ) → Each P os → IsOne o os → P o
@@ -184,43 +155,12 @@ all_go_on_in p es ws known all n c o i =
 
 -- how the list is made
 
-split : (a b : ℕ) → (a < b) ⊎ (b ≤ a)
-split zero zero = inr (omega arith)
-split zero (suc b) = inl (omega arith)
-split (suc a) zero = inr (omega arith)
-split (suc a) (suc b) = by (split a b)
-  where
-    by : (a < b) ⊎ (b ≤ a) → (suc a < suc b) ⊎ (suc b ≤ suc a)
-    by (inl h) = inl (omega arith)
-    by (inr h) = inr (omega arith)
-
--- an object that waits is in a call
-calls_where : (p : ProgramTree) (c : Configuration) (o : ℕ) (x : Object) → object_of c o ≡ Some x → WaitsAt p c o → is_calling p o (Some x) ≡ true
-calls_where p c o x there w =
-    let is : w.object ≡ x = same_some (sym w.there ∙ there) in
-    subst (λ (y : Object). is_calling p o (Some y) ≡ true) is (calls w.sound w.waits)
-  where
-    calls : w.object.fault ≡ None → is_in_call (action p o w.object) ≡ true → is_calling p o (Some w.object) ≡ true
-    calls h k = rw h k
-
--- one more object of an entry
-pub added_more : (p : ProgramTree) (c : Configuration) (ws vs : List Waiter) (at i : ℕ) (x : Object) → object_of c i ≡ Some x → ((q : ℕ) → q < i → WaitsAt p c q → HasWaiter false at q ws)
-    → ((q : ℕ) → HasWaiter false at q ws → HasWaiter false at q vs) → (is_calling p i (Some x) ≡ true → HasWaiter false at i vs) → (q : ℕ) → q < i + 1 → WaitsAt p c q → HasWaiter false at q vs
-added_more p c ws vs at i x there before more here q below waits = by (split q i)
-  where
-    by : (q < i) ⊎ (i ≤ q) → HasWaiter false at q vs
-    by (inl h) = more q (before q h waits)
-    by (inr h) =
-        let is : i ≡ q = omega arith in
-        let w : WaitsAt p c i = subst (WaitsAt p c) (sym is) waits in
-        subst (λ (n : ℕ). HasWaiter false at n vs) is (here (calls_where p c i x there w))
-
 -- one more entry
 pub filled_more : (p : ProgramTree) (es : Entries) (ws vs added : List Waiter) (at : ℕ)
     → ((i : ℕ) (e : Passed) (o : ℕ) → i < at → slice_get es i ≡ Some e → WaitsAt p e.configuration o → HasWaiter false i o ws) → vs ≡ ws ++ added
     → IfSome (slice_get es at) (λ (e : Passed). (o : ℕ) → WaitsAt p e.configuration o → HasWaiter false at o vs) → (i : ℕ) (e : Passed) (o : ℕ) → i < at + 1 → slice_get es i ≡ Some e
     → WaitsAt p e.configuration o → HasWaiter false i o vs
-filled_more p es ws vs added at before grown here i e o below g waits = by (split i at)
+filled_more p es ws vs added at before grown here i e o below g waits = by (below_or_from i at)
   where
     by : (i < at) ⊎ (at ≤ i) → HasWaiter false i o vs
     by (inl h) = subst (HasWaiter false i o) (sym grown) (has_more false i o ws added (before i e o h g waits))

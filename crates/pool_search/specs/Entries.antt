@@ -4,7 +4,7 @@ use Rattle.run_types.specs.declared.types.Item.{Item}
 use Rattle.pool_syntax.specs.Terms.{ProgramTree}
 use Rattle.pool_relation.specs.Configuration.{Configuration}
 use Rattle.search_laws.specs.Outcomes.{Passed}
-use Rattle.pool_search.specs.VisitedConfigurations.{entry, kept_list, kept_lists, kept_program}
+use Rattle.visited_set.specs.VisitedConfigurations.{entry, kept_list, kept_lists, kept_program}
 use Rattle.pool_search.specs.declared.explored.Explored.{Explored}
 use Rattle.pool_search.specs.declared.queries.Query.{Query}
 use Rattle.pool_search.specs.SearchAnswers.{IsPassedBy}

@@ -14,12 +14,12 @@ use Rattle.search_laws.specs.Stubborn.{IsAwaited, is_served}
 use Rattle.search_laws.specs.Tried.{states_only}
 use Rattle.search_laws.specs.Dead.{some_changes}
 use Rattle.object_moves.specs.Followed.{AreChanged}
-use Rattle.pool_search.specs.Courses.{all_followed}
+use Rattle.visited_set.specs.Courses.{all_followed}
 use Rattle.pool_search.specs.Progress.{Entries}
 use Rattle.pool_search.specs.Trials.{is_asked}
-use Rattle.pool_search.specs.VisitedConfigurations.{entry}
-use Rattle.pool_search.specs.WaiterLists.{HasWaiter}
-use Rattle.pool_search.specs.declared.waiters.Waiter.{Waiter}
+use Rattle.visited_set.specs.VisitedConfigurations.{entry}
+use Rattle.visited_set.specs.WaiterLists.{HasWaiter}
+use Rattle.visited_set.specs.declared.waiters.Waiter.{Waiter}
 
 -- from c, with the next name n, the label l leads to the entry `to`; `made` are the label and those that settle after it
 pub record IsEdge (p : ProgramTree) (es : Entries) (n : ℕ) (c : Configuration) (l : Label) (made : List Label) (to : ℕ) : Type 0 where

@@ -1,5 +1,5 @@
 -- The labels of an entry that are tried, and the results of trials.
-use Rattle.std.specs.Prelude.{◌≡◌, ◌<◌, ℕ, List, ◌∷◌, Option, Some, None, Bool, true, false, slice_get}
+use Rattle.std.specs.Prelude.{◌≡◌, ◌<◌, ℕ, List, Option, Some, None, Bool, true, false, slice_get}
 use Rattle.run_types.specs.declared.types.Item.{Item}
 use Rattle.run_types.specs.declared.types.Label.{Label}
 use Rattle.pool_syntax.specs.Terms.{ProgramTree}
@@ -8,9 +8,8 @@ use Rattle.pool_relation.specs.Transition.{transition}
 use Rattle.search_laws.specs.Outcomes.{Passed}
 use Rattle.search_laws.specs.Stubborn.{is_served}
 use Rattle.search_laws.specs.Tried.{Course, Follows, LeadsAt}
-use Rattle.object_moves.specs.Followed.{AreChanged, passes}
 use Rattle.pool_search.specs.Progress.{Entries}
-use Rattle.pool_search.specs.VisitedConfigurations.{entry}
+use Rattle.visited_set.specs.VisitedConfigurations.{entry}
 use Rattle.pool_search.specs.declared.choices.Trial.{Trial}
 use Rattle.pool_search.specs.declared.choices.Trial.TheVariants as T
 
@@ -43,11 +42,3 @@ pub record OneLeadsOn (p : ProgramTree) (k : Course) (es : Entries) (at : ℕ) (
   pub label : Label
   pub asked : is_asked served label ≡ true
   pub leads : LeadsAt p k es e.next e.items e.configuration label place
-
--- the label is possible in c, and leads to this configuration after some transitions that are followed; these objects are
--- changed on the way
-pub record IsLedBy (p : ProgramTree) (k : Course) (c : Configuration) (l : Label) (to : Configuration) (moved : List ℕ) : Type 0 where
-  pub next : Configuration
-  pub step : transition p c l ≡ Some next
-  pub follows : Follows p k next to
-  pub changed : AreChanged (l ∷ passes follows) moved

@@ -19,11 +19,18 @@ use crate::changes::some_changes;
 use crate::choices::{Trial, is_asked, later, serves_some};
 use crate::explored::Explored;
 use crate::going_on::Lead;
-use crate::waiters::{Waiter, Waiters};
 use label_list::LabelList;
 use pool_semantics::Plain;
 use run_types::Label;
-use std::alloc::{AllocError, Global};
+use std::alloc::AllocError;
+use visited_set::{Waiter, Waiters};
+
+/// An object that waits and may be dead, and the waiters of all entries.
+#[derive(Clone, Copy)]
+struct Suspect<'b> {
+    waiters: &'b Waiters,
+    object: u32,
+}
 
 impl<'a> Explored<'a> {
     /// Whether a label of entry `at`, where the stepper is, is impossible, or leads to an entry in which the object waits
@@ -32,8 +39,7 @@ impl<'a> Explored<'a> {
     fn is_beside(
         &mut self,
         plain: &mut Plain<'a>,
-        waiters: &Waiters,
-        object: u32,
+        suspect: &Suspect<'_>,
         at: u32,
         next: u32,
         label: &Label,
@@ -47,17 +53,17 @@ impl<'a> Explored<'a> {
         ensures again { OnOk result (configuration_of plain.new ≡ configuration_of plain.old) }
         ensures same_program { OnOk result (program_tree plain.new ≡ program_tree plain.old) }
         ensures fresh { OnOk result (is_spent plain.new ≡ false) }
-        ensures tried { IfOk result (λ t. is_tried t ≡ true → IsBeside (searched self.old) (entries self.old) waiters.now.list.items object next (configuration_of plain.old) label.now) }
+        ensures tried { IfOk result (λ t. is_tried t ≡ true → IsBeside (searched self.old) (entries self.old) suspect.now.waiters.now.list.items suspect.now.object next (configuration_of plain.old) label.now) }
         ensures led { (i : ℕ) → result ≡ Ok (Trial.Led i)
-            → (h : LeadsBeside (searched self.old) (entries self.old) waiters.now.list.items object next (configuration_of plain.old) label.now) × (h.to ≡ i) }
+            → (h : LeadsBeside (searched self.old) (entries self.old) suspect.now.waiters.now.list.items suspect.now.object next (configuration_of plain.old) label.now) × (h.to ≡ i) }
     {
         match self.lead(plain, at, next, label, made) {
             Ok(Lead::Nowhere) => Ok(Trial::Tried),
             Ok(Lead::To(to)) => {
-                if some_changes(object, made) {
+                if some_changes(suspect.object, made) {
                     return Ok(Trial::Over);
                 }
-                if waiters.has(false, to, object) {
+                if suspect.waiters.has(false, to, suspect.object) {
                     return Ok(Trial::Led(to));
                 }
                 Ok(Trial::Over)
@@ -72,8 +78,7 @@ impl<'a> Explored<'a> {
     fn stays_beside(
         &mut self,
         plain: &mut Plain<'a>,
-        waiters: &Waiters,
-        object: u32,
+        suspect: &Suspect<'_>,
         at: u32,
         next: u32,
         label: &Label,
@@ -90,14 +95,14 @@ impl<'a> Explored<'a> {
         ensures same_program { OnOk result (program_tree plain.new ≡ program_tree plain.old) }
         ensures fresh { OnOk result (is_spent plain.new ≡ false) }
         ensures tried { IfOk result (λ t. is_tried t ≡ true → is_asked served label.now ≡ true
-            → IsBeside (searched self.old) (entries self.old) waiters.now.list.items object next (configuration_of plain.old) label.now) }
+            → IsBeside (searched self.old) (entries self.old) suspect.now.waiters.now.list.items suspect.now.object next (configuration_of plain.old) label.now) }
         ensures led { (i : ℕ) → result ≡ Ok (Trial.Led i)
-            → (trial ≡ Trial.Led i) ⊎ OneStaysOn (searched self.old) (entries self.old) waiters.now.list.items object at next (configuration_of plain.old) served i }
+            → (trial ≡ Trial.Led i) ⊎ OneStaysOn (searched self.old) (entries self.old) suspect.now.waiters.now.list.items suspect.now.object at next (configuration_of plain.old) served i }
     {
         if !is_asked(served, label) {
             return Ok(trial);
         }
-        match self.is_beside(plain, waiters, object, at, next, label, made) {
+        match self.is_beside(plain, suspect, at, next, label, made) {
             Ok(Trial::Tried) => Ok(trial),
             Ok(Trial::Led(to)) => Ok(later(trial, at, to)),
             Ok(Trial::Over) => Ok(Trial::Over),
@@ -109,10 +114,8 @@ impl<'a> Explored<'a> {
     /// entry.
     fn are_beside(
         &mut self,
-        alloc: Global,
         plain: &mut Plain<'a>,
-        waiters: &Waiters,
-        object: u32,
+        suspect: &Suspect<'_>,
         at: u32,
         next: u32,
         labels: &[Label],
@@ -127,16 +130,14 @@ impl<'a> Explored<'a> {
         ensures same_program { OnOk result (program_tree plain.new ≡ program_tree plain.old) }
         ensures fresh { OnOk result (is_spent plain.new ≡ false) }
         ensures tried { IfOk result (λ t. is_tried t ≡ true
-            → Each (IsBeside (searched self.old) (entries self.old) waiters.now.list.items object next (configuration_of plain.old)) (filter (is_asked served) labels.now)) }
+            → Each (IsBeside (searched self.old) (entries self.old) suspect.now.waiters.now.list.items suspect.now.object next (configuration_of plain.old)) (filter (is_asked served) labels.now)) }
         ensures led { (i : ℕ) → result ≡ Ok (Trial.Led i)
-            → OneStaysOn (searched self.old) (entries self.old) waiters.now.list.items object at next (configuration_of plain.old) served i }
+            → OneStaysOn (searched self.old) (entries self.old) suspect.now.waiters.now.list.items suspect.now.object at next (configuration_of plain.old) served i }
     {
-        let mut made = LabelList::make(alloc);
+        let mut made = LabelList::make(self.kept.alloc());
         let mut trial = Trial::Tried;
         for label in labels {
-            match self.stays_beside(
-                plain, waiters, object, at, next, label, served, trial, &mut made,
-            ) {
+            match self.stays_beside(plain, suspect, at, next, label, served, trial, &mut made) {
                 Ok(now) => trial = now,
                 Err(_) => return Err(AllocError),
             }
@@ -151,10 +152,8 @@ impl<'a> Explored<'a> {
     /// and one of them leads to a later entry.
     fn stays_by(
         &mut self,
-        alloc: Global,
         plain: &mut Plain<'a>,
-        waiters: &Waiters,
-        object: u32,
+        suspect: &Suspect<'_>,
         at: u32,
         next: u32,
         labels: &[Label],
@@ -170,7 +169,7 @@ impl<'a> Explored<'a> {
         ensures again { OnOk result (configuration_of plain.new ≡ configuration_of plain.old) }
         ensures same_program { OnOk result (program_tree plain.new ≡ program_tree plain.old) }
         ensures fresh { OnOk result (is_spent plain.new ≡ false) }
-        ensures stays { result ≡ Ok true → (e : Passed) → slice_get (entries self.old) at ≡ Some e → StaysIn (searched self.old) (entries self.old) waiters.now.list.items object at e }
+        ensures stays { result ≡ Ok true → (e : Passed) → slice_get (entries self.old) at ≡ Some e → StaysIn (searched self.old) (entries self.old) suspect.now.waiters.now.list.items suspect.now.object at e }
     {
         if !serves_some(served, labels) {
             return Ok(false);
@@ -178,16 +177,7 @@ impl<'a> Explored<'a> {
         if !self.kept.is_only_awaited(at as usize, served) {
             return Ok(false);
         }
-        match self.are_beside(
-            alloc,
-            plain,
-            waiters,
-            object,
-            at,
-            next,
-            labels,
-            Some(served),
-        ) {
+        match self.are_beside(plain, suspect, at, next, labels, Some(served)) {
             Ok(Trial::Led(_)) => Ok(true),
             Ok(_) => Ok(false),
             Err(_) => Err(AllocError),
@@ -197,10 +187,8 @@ impl<'a> Explored<'a> {
     /// Whether this is so for some object.
     fn stays_by_choice(
         &mut self,
-        alloc: Global,
         plain: &mut Plain<'a>,
-        waiters: &Waiters,
-        object: u32,
+        suspect: &Suspect<'_>,
         at: u32,
         next: u32,
         labels: &[Label],
@@ -215,10 +203,10 @@ impl<'a> Explored<'a> {
         ensures again { OnOk result (configuration_of plain.new ≡ configuration_of plain.old) }
         ensures same_program { OnOk result (program_tree plain.new ≡ program_tree plain.old) }
         ensures fresh { OnOk result (is_spent plain.new ≡ false) }
-        ensures stays { result ≡ Ok true → (e : Passed) → slice_get (entries self.old) at ≡ Some e → StaysIn (searched self.old) (entries self.old) waiters.now.list.items object at e }
+        ensures stays { result ≡ Ok true → (e : Passed) → slice_get (entries self.old) at ≡ Some e → StaysIn (searched self.old) (entries self.old) suspect.now.waiters.now.list.items suspect.now.object at e }
     {
         for served in 0..next {
-            match self.stays_by(alloc, plain, waiters, object, at, next, labels, served) {
+            match self.stays_by(plain, suspect, at, next, labels, served) {
                 Ok(true) => return Ok(true),
                 Ok(false) => {}
                 Err(_) => return Err(AllocError),
@@ -231,10 +219,8 @@ impl<'a> Explored<'a> {
     /// serves.
     fn stays_where(
         &mut self,
-        alloc: Global,
         plain: &mut Plain<'a>,
-        waiters: &Waiters,
-        object: u32,
+        suspect: &Suspect<'_>,
         at: u32,
         next: u32,
         labels: &[Label],
@@ -246,71 +232,59 @@ impl<'a> Explored<'a> {
         requires labels { labels.now ≡ labels_to_try (searched self.old) next (configuration_of plain.old) }
         ensures same { entries self.new ≡ entries self.old }
         ensures program { searched self.new ≡ searched self.old }
-        ensures stays { result ≡ Ok true → (e : Passed) → slice_get (entries self.old) at ≡ Some e → StaysIn (searched self.old) (entries self.old) waiters.now.list.items object at e }
+        ensures stays { result ≡ Ok true → (e : Passed) → slice_get (entries self.old) at ≡ Some e → StaysIn (searched self.old) (entries self.old) suspect.now.waiters.now.list.items suspect.now.object at e }
     {
-        match self.stays_by_choice(alloc, plain, waiters, object, at, next, labels) {
+        match self.stays_by_choice(plain, suspect, at, next, labels) {
             Ok(true) => return Ok(true),
             Ok(false) => {}
             Err(_) => return Err(AllocError),
         }
-        let trial = self.are_beside(alloc, plain, waiters, object, at, next, labels, None)?;
+        let trial = self.are_beside(plain, suspect, at, next, labels, None)?;
         Ok(!trial.is_over())
     }
 
     /// The same of the entry with this number. `false` if there is no such entry. An error means out of memory.
-    fn stays_in(
-        &mut self,
-        alloc: Global,
-        waiters: &Waiters,
-        object: u32,
-        at: u32,
-    ) -> Result<bool, AllocError>
+    fn stays_in(&mut self, suspect: &Suspect<'_>, at: u32) -> Result<bool, AllocError>
         requires in_order { AllInOrder (entries self.old) }
         ensures same { entries self.new ≡ entries self.old }
         ensures program { searched self.new ≡ searched self.old }
-        ensures stays { result ≡ Ok true → (e : Passed) → slice_get (entries self.old) at ≡ Some e → StaysIn (searched self.old) (entries self.old) waiters.now.list.items object at e }
+        ensures stays { result ≡ Ok true → (e : Passed) → slice_get (entries self.old) at ≡ Some e → StaysIn (searched self.old) (entries self.old) suspect.now.waiters.now.list.items suspect.now.object at e }
     {
         if at as usize >= self.kept.len() {
             return Ok(false);
         }
         let next = self.kept.next_name(at as usize);
         let mut plain = self.kept.configuration(at as usize)?;
-        let mut labels = Vec::new(alloc);
+        let mut labels = Vec::new(self.kept.alloc());
         plain.labels(next, &mut labels)?;
-        self.stays_where(alloc, &mut plain, waiters, object, at, next, &labels)
+        self.stays_where(&mut plain, suspect, at, next, &labels)
     }
 
     /// The same of the entry of a waiter, if the waiter is the object and not known to go on.
-    fn stays_at(
-        &mut self,
-        alloc: Global,
-        waiters: &Waiters,
-        object: u32,
-        waiter: Waiter,
-    ) -> Result<bool, AllocError>
+    fn stays_at(&mut self, suspect: &Suspect<'_>, waiter: Waiter) -> Result<bool, AllocError>
         requires in_order { AllInOrder (entries self.old) }
         ensures same { entries self.new ≡ entries self.old }
         ensures program { searched self.new ≡ searched self.old }
-        ensures stays { result ≡ Ok true → StaysAt (searched self.old) (entries self.old) waiters.now.list.items object waiter }
+        ensures stays { result ≡ Ok true → StaysAt (searched self.old) (entries self.old) suspect.now.waiters.now.list.items suspect.now.object waiter }
     {
-        if waiter.object != object {
+        if waiter.object != suspect.object {
             return Ok(true);
         }
         if waiter.goes_on {
             return Ok(true);
         }
-        self.stays_in(alloc, waiters, object, waiter.entry)
+        self.stays_in(suspect, waiter.entry)
     }
 
     /// The same of all entries in which the object waits and is not known to go on. An error means out of memory.
-    fn stays(&mut self, alloc: Global, waiters: &Waiters, object: u32) -> Result<bool, AllocError>
+    fn stays(&mut self, suspect: &Suspect<'_>) -> Result<bool, AllocError>
         requires in_order { AllInOrder (entries self.old) }
         ensures same { entries self.new ≡ entries self.old }
         ensures program { searched self.new ≡ searched self.old }
-        ensures stays { result ≡ Ok true → Each (StaysAt (searched self.old) (entries self.old) waiters.now.list.items object) waiters.now.list.items }
+        ensures stays { result ≡ Ok true → Each (StaysAt (searched self.old) (entries self.old) suspect.now.waiters.now.list.items suspect.now.object) suspect.now.waiters.now.list.items }
     {
-        for waiter in waiters.list.as_slice() {
-            match self.stays_at(alloc, waiters, object, *waiter) {
+        for waiter in suspect.waiters.list.as_slice() {
+            match self.stays_at(suspect, *waiter) {
                 Ok(true) => {}
                 Ok(false) => return Ok(false),
                 Err(_) => return Err(AllocError),
@@ -321,13 +295,7 @@ impl<'a> Explored<'a> {
 
     /// Whether the object, which waits in entry `at`, is dead there. `false` also if this is not known. An error means out
     /// of memory.
-    fn is_dead(
-        &mut self,
-        alloc: Global,
-        waiters: &Waiters,
-        at: u32,
-        object: u32,
-    ) -> Result<bool, AllocError>
+    fn is_dead(&mut self, waiters: &Waiters, at: u32, object: u32) -> Result<bool, AllocError>
         requires { AllInOrder (entries self.old) }
         ensures same { entries self.new ≡ entries self.old }
         ensures program { searched self.new ≡ searched self.old }
@@ -337,13 +305,12 @@ impl<'a> Explored<'a> {
         if !waiters.has(false, at, object) {
             return Ok(false);
         }
-        self.stays(alloc, waiters, object)
+        self.stays(&Suspect { waiters, object })
     }
 
     /// The dead objects of entry `at`, where the stepper is. Not all, if some are not known. An error means out of memory.
     pub fn dead_at(
         &mut self,
-        alloc: Global,
         waiters: &Waiters,
         plain: &Plain<'_>,
         at: u32,
@@ -354,10 +321,10 @@ impl<'a> Explored<'a> {
         ensures { IfOk result (λ v. (e : Passed) → slice_get (entries self.old) at ≡ Some e → IsReachedInOrder (searched self.old) e.next e.configuration
             → Each (IsDead (searched self.old) e.configuration) v.items) }
     {
-        let mut names = Vec::new(alloc);
+        let mut names = Vec::new(self.kept.alloc());
         let mut from = 0;
         while let Some(waiting) = plain.waiting(from) {
-            match self.is_dead(alloc, waiters, at, waiting.object) {
+            match self.is_dead(waiters, at, waiting.object) {
                 Ok(true) => names.push(waiting.object)?,
                 Ok(false) => {}
                 Err(_) => return Err(AllocError),

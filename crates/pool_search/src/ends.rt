@@ -7,13 +7,13 @@ ghost use Rattle.pool_search.specs.FoundOutcomes.{HasOne, outcome};
 
 use crate::classifier::{is_faulty, is_stuck};
 use crate::outcomes::{EndKind, Outcome};
-use crate::writings::{item_of, mark_item, same_item};
 use label_list::{LabelList, Part};
 use pool_semantics::Plain;
 use run_types::Item;
 use std::alloc::{AllocError, Global};
 use std::collections::HashMap;
 use std::hash::{FoldHasher, Hasher};
+use visited_set::{item_of, mark_item, same_item};
 
 /// The outcomes that were found, each with the number of an entry where a run with this outcome ends. `latest` has the
 /// index of the last one of each hash. An outcome can be in the list twice after a collision of hashes.

@@ -8,25 +8,23 @@ ghost use Rattle.reachability.specs.Search.{after};
 ghost use Rattle.reachability.specs.Labels.{labels_to_try};
 ghost use Rattle.search_laws.specs.Outcomes.{Passed};
 ghost use Rattle.search_laws.specs.Tried.{AllLeadInto, IsExpanded, IsLabelTried, LeadsAt, states_only};
-ghost use Rattle.pool_search.specs.Courses.{course_of};
+ghost use Rattle.visited_set.specs.Courses.{course_of};
 ghost use Rattle.pool_search.specs.Entries.{IsPassedOver, entries, lists, searched};
 ghost use Rattle.pool_search.specs.Trials.{CanMove, is_asked, is_tried, OneLeadsOn, SettlesAt};
-ghost use Rattle.pool_search.specs.VisitedConfigurations.{entry};
+ghost use Rattle.visited_set.specs.VisitedConfigurations.{entry};
 ghost use Rattle.pool_search.specs.Progress.{AllInOrder, AllReached, Grows, IsReachedWith, IsSearchedTo, HasSearched};
 
 use crate::choices::{Trial, is_again, is_asked, later, serves_some};
 use crate::classifier::{Classification, judge};
-use crate::hints::{Hints, has_bit};
 use crate::progress::Progress;
 use crate::queries::Query;
-use crate::scope::{Keeps, Scope};
+use crate::scope::Scope;
 use crate::settling::settle;
-use crate::visited::{Entry, Found, VisitedSet};
-use crate::writings::item_of;
 use pool_semantics::{Plain, Refuse};
 use pool_syntax::Program;
 use run_types::Label;
 use std::alloc::{AllocError, Global};
+use visited_set::{Entry, Found, Hints, Keeps, VisitedSet, has_bit, item_of};
 
 /// How the search came to an entry: the number of its parent,
 /// and the index of the label in the parent's list of labels.

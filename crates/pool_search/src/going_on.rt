@@ -6,18 +6,16 @@ ghost use Rattle.pool_semantics.specs.PlainOf.{configuration_of, program_tree, i
 ghost use Rattle.pool_search.specs.Entries.{IsEntryAt, entries, searched};
 ghost use Rattle.search_laws.specs.Outcomes.{Passed};
 ghost use Rattle.pool_search.specs.Leads.{HasMovedTo, IsEdge};
-ghost use Rattle.pool_search.specs.WaiterLists.{AreKnown};
+ghost use Rattle.pool_search.specs.KnownWaiters.{AreKnown};
 
 use crate::changes::changed_by;
 use crate::explored::{Explored, name_after};
-use crate::scope::Keeps;
 use crate::settling::settle_shown;
-use crate::visited::{Entry, Found};
-use crate::waiters::Waiters;
 use label_list::LabelList;
 use pool_semantics::{Plain, Refuse};
 use run_types::Label;
 use std::alloc::{AllocError, Global};
+use visited_set::{Entry, Found, Keeps, Waiters};
 
 /// Where a label of an entry leads.
 #[derive(Clone, Copy)]

@@ -6,7 +6,7 @@ ghost use Rattle.pool_syntax.specs.TreeOf.{program_of};
 ghost use Rattle.pool_relation.specs.Transition.{start};
 ghost use Rattle.pool_semantics.specs.PlainOf.{configuration_of, program_tree, is_spent};
 ghost use Rattle.search_laws.specs.Tried.{with_writes};
-ghost use Rattle.pool_search.specs.Courses.{course_of};
+ghost use Rattle.visited_set.specs.Courses.{course_of};
 ghost use Rattle.pool_search.specs.Entries.{entries, lists, searched};
 ghost use Rattle.pool_search.specs.FoundOutcomes.{IsNoted, IsShownRun};
 ghost use Rattle.pool_search.specs.OutcomeTargets.{IsShown, IsRunOf, HasAllOutcomes};
@@ -16,16 +16,16 @@ ghost use Rattle.pool_search.specs.declared.outcomes.Outcome.{Outcome as OneOutc
 use crate::choices::Trial;
 use crate::ends::{Ends, kind_of, written_by};
 use crate::explored::Explored;
-use crate::hints::Hints;
 use crate::progress::Progress;
 use crate::retracing::{retrace, way_to};
-use crate::scope::{Keeps, Scope};
+use crate::scope::Scope;
 use crate::searching::begin;
 use class_check::Checked;
 use label_list::LabelList;
 use pool_semantics::Plain;
 use run_types::Item;
 use std::alloc::{AllocError, Global};
+use visited_set::{Hints, Keeps};
 
 /// How a run ends. The first of these that applies is its kind.
 #[derive(Clone, Copy)]

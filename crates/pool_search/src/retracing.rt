@@ -10,13 +10,13 @@ use crate::changes::next_after;
 use crate::classifier::{Classification, judge};
 use crate::explored::{Origin, name_after};
 use crate::queries::{Query, SearchResult};
-use crate::scope::Keeps;
 use crate::settling::settle_shown;
 use class_check::Checked;
 use label_list::LabelList;
 use pool_semantics::{Plain, Refuse};
 use run_types::Label;
 use std::alloc::{AllocError, Global};
+use visited_set::Keeps;
 
 /// The indexes of the labels that lead to an entry, the last first. An error means out of memory.
 /// No proof depends on them: the run is repeated, and its end is classified again.

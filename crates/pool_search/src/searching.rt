@@ -7,7 +7,7 @@ ghost use Rattle.pool_relation.specs.Transition.{start};
 ghost use Rattle.pool_semantics.specs.PlainOf.{configuration_of, program_tree, is_spent};
 ghost use Rattle.run_types.specs.declared.types.Label.{Label};
 ghost use Rattle.search_laws.specs.Tried.{states_only};
-ghost use Rattle.pool_search.specs.Courses.{course_of};
+ghost use Rattle.visited_set.specs.Courses.{course_of};
 ghost use Rattle.pool_search.specs.Entries.{IsPassedOver, entries, lists, searched};
 ghost use Rattle.pool_search.specs.Progress.{AllInOrder, IsSearchedTo};
 ghost use Rattle.pool_search.specs.SearchTargets.{IsFinite, IsShownFault, IsWantedDead, IsWantedEnd, LeadsInOrder, wants_stuck};
@@ -19,12 +19,12 @@ use crate::explored::{Explored, Origin, RunEnd};
 use crate::progress::Progress;
 use crate::queries::{Query, SearchResult, Target};
 use crate::retracing::{retrace, show, way_to};
-use crate::scope::{Keeps, Scope};
-use crate::waiters::Waiters;
+use crate::scope::Scope;
 use class_check::Checked;
 use label_list::LabelList;
 use pool_semantics::Plain;
 use std::alloc::{AllocError, Global};
+use visited_set::{Keeps, Waiters};
 
 /// Settles the start and keeps it in this empty set. `false` if a bound is met. An error means out of memory.
 pub fn begin<'a>(
@@ -78,7 +78,7 @@ fn dead_after<'a>(
     let Some(place) = explored.kept.find(plain, next, written)? else {
         return Ok(None);
     };
-    let names = explored.dead_at(alloc, waiters, plain, place)?;
+    let names = explored.dead_at(waiters, plain, place)?;
     if names.is_empty() {
         return Ok(None);
     }

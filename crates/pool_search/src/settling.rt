@@ -5,13 +5,13 @@ ghost use Rattle.pool_relation.specs.Configuration.{Configuration};
 ghost use Rattle.pool_relation.specs.Transition.{transition, run};
 ghost use Rattle.pool_semantics.specs.PlainOf.{configuration_of, program_tree, is_spent};
 ghost use Rattle.search_laws.specs.Tried.{Follows};
-ghost use Rattle.pool_search.specs.Courses.{all_followed, course_of};
+ghost use Rattle.visited_set.specs.Courses.{all_followed, course_of};
 
-use crate::scope::Keeps;
 use label_list::LabelList;
 use pool_semantics::{Plain, Refuse, agent};
 use run_types::Label;
 use std::alloc::AllocError;
+use visited_set::Keeps;
 
 /// The largest number of transitions that settling makes. Without a bound, an endless loop of a program would not end.
 pub const SETTLE: u32 = 1_000_000;

@@ -5,7 +5,7 @@ use Rattle.pool_syntax.specs.Terms.{ProgramTree}
 use Rattle.pool_syntax.specs.TreeOf.{program_of}
 use Rattle.search_laws.specs.Tried.{with_writes}
 use Rattle.search_laws.proofs.Laws.{nameless}
-use Rattle.pool_search.specs.Courses.{course_of}
+use Rattle.visited_set.specs.Courses.{course_of}
 use Rattle.pool_search.specs.Entries.{entries, searched}
 use Rattle.pool_search.specs.FoundOutcomes.{IsNoted}
 use Rattle.pool_search.specs.OutcomeTargets.{IsShown}

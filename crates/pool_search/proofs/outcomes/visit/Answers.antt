@@ -3,7 +3,7 @@ use Rattle.std.specs.Prelude.{IfSome}
 use Rattle.pool_syntax.specs.Terms.{ProgramTree}
 use Rattle.search_laws.specs.Outcomes.{Passed}
 use Rattle.search_laws.specs.Tried.{Course, with_writes}
-use Rattle.pool_search.specs.Courses.{course_of}
+use Rattle.visited_set.specs.Courses.{course_of}
 use Rattle.pool_search.specs.Entries.{entries, searched}
 use Rattle.pool_search.specs.FoundOutcomes.{IsNoted}
 use Rattle.pool_search.specs.Progress.{Entries, HasSearched}

@@ -19,7 +19,7 @@ returns-clause-leads c =
     (λ (_ : Bool). (k : Configuration) → run (program_tree c.apply.new.self) k c.push.new.self ≡ Some between → run (program_tree c.apply.new.self) k after ≡ Some to)
     (λ (_ : Bool). (k : Configuration) → run p k before ≡ Some from → run p k after ≡ Some to)
     (λ _ h k r.
-    let one : run p k c.push.new.self ≡ Some between = ap (run p k) c.in_ok-push.ensures ∙ run_more p k from between before c.args.label.now r c.in-Ok.ensures.made in
+    let one : run p k c.push.new.self ≡ Some between = ap (run p k) c.in_ok-push.ensures.ok ∙ run_more p k from between before c.args.label.now r c.in-Ok.ensures.made in
     subst (λ (q : ProgramTree). run q k after ≡ Some to) c.apply.ensures.program
     (h k (subst (λ (q : ProgramTree). run q k c.push.new.self ≡ Some between) (sym c.apply.ensures.program) one)))
     c.settle_shown.ensures.leads

@@ -4,13 +4,13 @@ use Rattle.run_types.specs.declared.types.Item.{Item}
 use Rattle.pool_syntax.specs.Terms.{ProgramTree}
 use Rattle.pool_relation.specs.Transition.{start}
 use Rattle.pool_semantics.specs.PlainOf.{configuration_of}
-use Rattle.pool_search.specs.Courses.{course_of}
+use Rattle.visited_set.specs.Courses.{course_of}
 use Rattle.pool_search.specs.Entries.{entries, lists, searched}
 use Rattle.pool_search.specs.Progress.{Entries, Grows, IsReachedWith, IsSearchedTo}
 use Rattle.pool_search.specs.Trials.{SettlesAt}
 use Rattle.pool_search.proofs.EntryExpansion.{begun_at}
 use Rattle.pool_search.proofs.RunExtension.{reached_start}
-use Rattle.pool_search.proofs.TrialResults.{not_true}
+use Rattle.visited_set.proofs.Laws.{not_true}
 use Rattle.pool_search.proofs.searching.begin.Goals as goal
 
 pub settle_and_keep-requires-clause-program : goal.settle_and_keep-requires-clause-program

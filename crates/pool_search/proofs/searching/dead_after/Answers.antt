@@ -6,7 +6,7 @@ use Rattle.pool_relation.specs.Transition.{run, start}
 use Rattle.pool_semantics.specs.PlainOf.{configuration_of, program_tree}
 use Rattle.search_laws.specs.Dead.{IsDead}
 use Rattle.search_laws.specs.ClosedBeside.{IsReachedInOrder}
-use Rattle.pool_search.specs.VisitedConfigurations.{entry, kept_list, kept_program}
+use Rattle.visited_set.specs.VisitedConfigurations.{entry, kept_list, kept_program}
 use Rattle.pool_search.specs.Entries.{entries, lists}
 use Rattle.pool_search.specs.Progress.{Entries}
 use Rattle.pool_search.proofs.searching.dead_after.Goals as goal

@@ -5,7 +5,7 @@ use Rattle.search_laws.specs.Tried.{states_only}
 use Rattle.search_laws.proofs.Laws.{nameless}
 use Rattle.pool_search.specs.Entries.{IsPassedOver, entries}
 use Rattle.pool_search.specs.Progress.{IsSearchedTo}
-use Rattle.pool_search.specs.WaiterLists.{AreKnown}
+use Rattle.pool_search.specs.KnownWaiters.{AreKnown}
 use Rattle.pool_search.specs.SearchTargets.{wants_stuck}
 use Rattle.pool_search.proofs.SearchComplete.{AllGoOn, is_finite}
 use Rattle.pool_search.proofs.WaiterLaws.{all_go_on_in}

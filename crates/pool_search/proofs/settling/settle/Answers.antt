@@ -4,7 +4,7 @@ use Rattle.pool_syntax.specs.Terms.{ProgramTree}
 use Rattle.pool_relation.specs.Transition.{transition}
 use Rattle.pool_semantics.specs.PlainOf.{configuration_of, program_tree}
 use Rattle.search_laws.specs.Tried.{Stays}
-use Rattle.pool_search.specs.Courses.{course_of}
+use Rattle.visited_set.specs.Courses.{course_of}
 use Rattle.pool_search.proofs.RunExtension.{follows_more}
 use Rattle.pool_search.proofs.settling.settle.Goals as goal
 

@@ -1,7 +1,7 @@
 use Rattle.std.proofs.Common.{◌≡◌, false}
 use Rattle.pool_semantics.specs.PlainOf.{configuration_of, program_tree, is_spent}
 use Rattle.search_laws.specs.Tried.{Follows}
-use Rattle.pool_search.specs.Courses.{course_of}
+use Rattle.visited_set.specs.Courses.{course_of}
 use Rattle.pool_search.proofs.settling.settle.Given as goal
 
 -- so far only such transitions were made

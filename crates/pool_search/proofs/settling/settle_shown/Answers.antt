@@ -4,7 +4,7 @@ use Rattle.std.proofs.lemmas.List.{append-nil}
 use Rattle.pool_syntax.specs.Terms.{ProgramTree}
 use Rattle.pool_relation.specs.Transition.{transition, run}
 use Rattle.pool_semantics.specs.PlainOf.{configuration_of, program_tree}
-use Rattle.pool_search.specs.Courses.{course_of}
+use Rattle.visited_set.specs.Courses.{course_of}
 use Rattle.pool_search.proofs.RunExtension.{run_more, followed_more}
 use Rattle.pool_search.proofs.settling.settle_shown.Goals as goal
 
@@ -28,11 +28,11 @@ loop-made-preserved c =
       program = c.settle_once.ensures.program ∙ l.invariant.program;
       fresh = c.in-Ok-Some.ensures.fresh;
       leads = λ k h.
-          ap (run p k) c.in_ok-push-in-Ok-Some.ensures
+          ap (run p k) c.in_ok-push-in-Ok-Some.ensures.ok
           ∙ run_more p k from to l.shown made (l.invariant.leads k h) (subst (λ (q : ProgramTree). transition q from made ≡ Some to) l.invariant.program step);
       followed = (
         more.0 ++ made ∷ [],
-        c.in_ok-push-in-Ok-Some.ensures ∙ ap (λ xs. xs ++ made ∷ []) more.1 ∙ append_assoc c.args.shown.now more.0 (made ∷ []),
+        c.in_ok-push-in-Ok-Some.ensures.ok ∙ ap (λ xs. xs ++ made ∷ []) more.1 ∙ append_assoc c.args.shown.now more.0 (made ∷ []),
         followed_more k more.0 made more.2 free,
       );
     }

@@ -3,7 +3,7 @@ use Rattle.run_types.specs.declared.types.Label.{Label}
 use Rattle.pool_relation.specs.Configuration.{Configuration}
 use Rattle.pool_relation.specs.Transition.{run}
 use Rattle.pool_semantics.specs.PlainOf.{configuration_of, program_tree, is_spent}
-use Rattle.pool_search.specs.Courses.{all_followed, course_of}
+use Rattle.visited_set.specs.Courses.{all_followed, course_of}
 use Rattle.pool_search.proofs.settling.settle_shown.Given as goal
 
 -- so far the labels lead where the stepper is, and the search follows each of them

@@ -25,9 +25,9 @@ moved Q {p} {q} {es} {fs} {c} {d} i j k h = subst (Q q fs) k (subst (λ (xs : En
 pub loop-label-preserved : goal.loop-label-preserved
 loop-label-preserved c =
     let l = c.loop-label in
-    let o = c.args.object in
+    let o = c.args.suspect.now.object in
     let n = c.args.next in
-    let ws = c.args.waiters.now.list.items in
+    let ws = c.args.suspect.now.waiters.now.list.items in
     let labels = c.args.labels.now in
     let asked = is_asked c.args.served in
     let p = searched c.args.self.now in

@@ -18,7 +18,7 @@ invariant-loop-label l =
       same_program : program_tree l.plain ≡ program_tree l.initial.plain;
       fresh : is_spent l.plain ≡ false;
       in_bounds : is_tried l.trial ≡ true;
-      led : (i : ℕ) → l.trial ≡ T.Led i → OneStaysOn (searched l.initial.self) (entries l.initial.self) l.waiters.list.items l.object l.at l.next (configuration_of l.initial.plain) l.served i;
-      so_far : Each (IsBeside (searched l.initial.self) (entries l.initial.self) l.waiters.list.items l.object l.next (configuration_of l.initial.plain)) (filter (is_asked l.served) (drop l.label-index l.labels))
-          → Each (IsBeside (searched l.initial.self) (entries l.initial.self) l.waiters.list.items l.object l.next (configuration_of l.initial.plain)) (filter (is_asked l.served) l.labels);
+      led : (i : ℕ) → l.trial ≡ T.Led i → OneStaysOn (searched l.initial.self) (entries l.initial.self) l.suspect.waiters.now.list.items l.suspect.object l.at l.next (configuration_of l.initial.plain) l.served i;
+      so_far : Each (IsBeside (searched l.initial.self) (entries l.initial.self) l.suspect.waiters.now.list.items l.suspect.object l.next (configuration_of l.initial.plain)) (filter (is_asked l.served) (drop l.label-index l.labels))
+          → Each (IsBeside (searched l.initial.self) (entries l.initial.self) l.suspect.waiters.now.list.items l.suspect.object l.next (configuration_of l.initial.plain)) (filter (is_asked l.served) l.labels);
     }

@@ -8,7 +8,7 @@ use Rattle.pool_semantics.specs.PlainOf.{configuration_of}
 use Rattle.reachability.specs.Search.{after as after_label}
 use Rattle.search_laws.specs.Outcomes.{Passed}
 use Rattle.search_laws.specs.Tried.{LeadsAt}
-use Rattle.pool_search.specs.Courses.{course_of}
+use Rattle.visited_set.specs.Courses.{course_of}
 use Rattle.pool_search.specs.Entries.{entries, lists, searched}
 use Rattle.pool_search.specs.Progress.{Entries, Grows, IsReachedWith}
 use Rattle.pool_search.specs.Trials.{SettlesAt}

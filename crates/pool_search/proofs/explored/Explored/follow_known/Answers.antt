@@ -4,18 +4,18 @@ use Rattle.pool_syntax.specs.Terms.{ProgramTree}
 use Rattle.pool_relation.specs.Configuration.{Configuration}
 use Rattle.reachability.specs.Search.{after as after_label, IsInOrder}
 use Rattle.search_laws.specs.Tried.{LeadsAt}
-use Rattle.pool_search.specs.Courses.{course_of}
+use Rattle.visited_set.specs.Courses.{course_of}
 use Rattle.pool_search.specs.Entries.{entries, lists, searched}
-use Rattle.pool_search.specs.VisitedConfigurations.{entry, kept_list}
+use Rattle.visited_set.specs.VisitedConfigurations.{entry, kept_list}
 use Rattle.pool_search.specs.Progress.{Entries, Grows}
-use Rattle.pool_search.specs.Trials.{IsLedBy}
+use Rattle.visited_set.specs.LedBy.{IsLedBy}
 use Rattle.pool_search.proofs.ListGrowth.{as_it_is, entry_last}
 use Rattle.pool_search.proofs.RunExtension.{keeps_nothing}
 use Rattle.pool_search.proofs.EntryExpansion.{entry_there, grown_known, items_after, led_known}
 use Rattle.std.proofs.lemmas.Result.{err_from_is_err_and}
 use Rattle.pool_search.specs.declared.choices.Trial.{Trial}
 use Rattle.pool_search.specs.declared.choices.Trial.TheVariants as T
-use Rattle.pool_search.proofs.FailedResults.{not_ok}
+use Rattle.visited_set.proofs.Laws.{not_ok}
 use Rattle.pool_search.proofs.explored.Explored.follow_known.Goals as goal
 
 pub returns-in-Ok-At-Seen-clause-grows : goal.returns-in-Ok-At-Seen-clause-grows

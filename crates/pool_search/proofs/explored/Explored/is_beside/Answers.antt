@@ -13,8 +13,8 @@ returns-then-has-clause-led c = λ i e.
     let to = c.in-Ok-To.to in
     let is : to ≡ i = cc in
     let made = c.lead.new.made in
-    let beside : some_changes c.args.object made ≡ false = sym c.some_changes.ensures ∙ c.if-some_changes.false in
-    let h : LeadsBeside (searched c.args.self.now) (entries c.args.self.now) c.args.waiters.now.list.items c.args.object c.args.next (configuration_of c.args.plain.now) c.args.label.now =
+    let beside : some_changes c.args.suspect.now.object made ≡ false = sym c.some_changes.ensures ∙ c.if-some_changes.false in
+    let h : LeadsBeside (searched c.args.self.now) (entries c.args.self.now) c.args.suspect.now.waiters.now.list.items c.args.suspect.now.object c.args.next (configuration_of c.args.plain.now) c.args.label.now =
     record { made = made; to = to; edge = c.in-Ok-To.ensures.edge to (ap Ok c.in-Ok-To.field-0-is); beside = beside; waits = c.has.ensures c.if-has.true } in
     (h, is)
 

@@ -1,8 +1,8 @@
 use Rattle.std.proofs.Common.{get_or, subst, sym, ◌≡◌, [], Some, slice_get, arith}
 use Rattle.pool_semantics.specs.PlainOf.{configuration_of}
-use Rattle.pool_search.specs.Courses.{course_of}
+use Rattle.visited_set.specs.Courses.{course_of}
 use Rattle.pool_search.specs.Entries.{lists, searched}
-use Rattle.pool_search.specs.VisitedConfigurations.{entry, kept_list}
+use Rattle.visited_set.specs.VisitedConfigurations.{entry, kept_list}
 use Rattle.pool_search.specs.Progress.{Entries, Grows}
 use Rattle.pool_search.proofs.ListGrowth.{as_it_is, entry_last}
 use Rattle.pool_search.proofs.EntryExpansion.{grows_by_one}

@@ -7,11 +7,11 @@ use Rattle.pool_search.specs.declared.going_on.Lead.TheVariants as L
 use Rattle.pool_search.specs.Entries.{entries, searched}
 use Rattle.pool_search.specs.Leads.{IsEdge}
 use Rattle.pool_search.specs.Progress.{Entries}
-use Rattle.pool_search.specs.VisitedConfigurations.{entry}
+use Rattle.visited_set.specs.VisitedConfigurations.{entry}
 use Rattle.run_types.specs.declared.types.Label.{Label}
 use Rattle.pool_syntax.specs.Terms.{ProgramTree}
 use Rattle.pool_relation.specs.Transition.{transition}
-use Rattle.pool_search.proofs.FailedResults.{not_ok}
+use Rattle.visited_set.proofs.Laws.{not_ok}
 use Rattle.pool_search.proofs.TrialResults.{failed_not}
 use Rattle.pool_search.proofs.explored.Explored.lead.Goals as goal
 
@@ -179,6 +179,6 @@ returns-in-Some-clause-edge c = λ to told.
     let place = c.in-Some.to in
     let is : place ≡ to = cc in
     let step : transition p from l ≡ Some (configuration_of c.apply.new.self) = subst (λ (q : ProgramTree). transition q from l ≡ Some (configuration_of c.apply.new.self)) c.requires.program c.in-Ok.ensures.made in
-    let first : c.push.new.self ≡ l ∷ [] = c.in_ok-push.ensures ∙ ap (λ (ls : List Label). ls ++ l ∷ []) c.clear.ensures in
+    let first : c.push.new.self ≡ l ∷ [] = c.in_ok-push.ensures.ok ∙ ap (λ (ls : List Label). ls ++ l ∷ []) c.clear.ensures in
     let edge : IsEdge p es n from l made place = subst (λ o. IfSome o (IsEdge p es n from l made)) c.in-Some.is (c.in_ok-to.ensures.edge from step first) in
     subst (IsEdge p es n from l made) is edge

@@ -5,8 +5,8 @@ use Rattle.reachability.specs.Search.{after as after_label}
 use Rattle.search_laws.specs.Tried.{states_only}
 use Rattle.pool_search.specs.Entries.{entries, lists, searched}
 use Rattle.pool_search.specs.Leads.{HasMovedTo}
-use Rattle.pool_search.specs.Trials.{IsLedBy}
-use Rattle.pool_search.specs.VisitedConfigurations.{entry}
+use Rattle.visited_set.specs.LedBy.{IsLedBy}
+use Rattle.visited_set.specs.VisitedConfigurations.{entry}
 use Rattle.pool_search.proofs.MovedObjects.{moved_to}
 use Rattle.pool_search.proofs.explored.Explored.lead_known.Goals as goal
 

@@ -5,9 +5,10 @@ use Rattle.pool_syntax.specs.Terms.{ProgramTree}
 use Rattle.pool_search.specs.Entries.{entries, searched}
 use Rattle.pool_search.specs.Leads.{HasMovedTo}
 use Rattle.pool_search.specs.Progress.{Entries}
-use Rattle.pool_search.specs.WaiterLists.{AreKnown, GoesOnBy, noted}
+use Rattle.visited_set.specs.WaiterLists.{GoesOnBy, noted}
+use Rattle.pool_search.specs.KnownWaiters.{AreKnown}
 use Rattle.pool_search.specs.declared.going_on.Lead.TheVariants as L
-use Rattle.pool_search.specs.declared.waiters.Waiters.{Waiters}
+use Rattle.visited_set.specs.declared.waiters.Waiters.{Waiters}
 use Rattle.pool_search.proofs.EntryExpansion.{entry_there}
 use Rattle.pool_search.proofs.WaiterLaws.{known_noted}
 use Rattle.pool_search.proofs.explored.Explored.note_by.Goals as goal

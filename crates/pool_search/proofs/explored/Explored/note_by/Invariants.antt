@@ -1,5 +1,5 @@
 use Rattle.pool_search.specs.Entries.{entries, searched}
-use Rattle.pool_search.specs.WaiterLists.{AreKnown}
+use Rattle.pool_search.specs.KnownWaiters.{AreKnown}
 use Rattle.pool_search.proofs.explored.Explored.note_by.Given as goal
 
 -- what is noted is so

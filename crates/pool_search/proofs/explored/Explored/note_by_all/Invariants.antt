@@ -1,6 +1,6 @@
 use Rattle.std.proofs.Common.{◌≡◌}
 use Rattle.pool_search.specs.Entries.{entries, searched}
-use Rattle.pool_search.specs.WaiterLists.{AreKnown}
+use Rattle.pool_search.specs.KnownWaiters.{AreKnown}
 use Rattle.pool_search.proofs.explored.Explored.note_by_all.Given as goal
 
 -- what is noted is so

@@ -2,7 +2,7 @@ use Rattle.std.proofs.Common.{[], get_or, subst}
 use Rattle.pool_syntax.specs.Terms.{ProgramTree}
 use Rattle.pool_semantics.specs.PlainOf.{configuration_of}
 use Rattle.search_laws.specs.Tried.{Follows}
-use Rattle.pool_search.specs.Courses.{course_of}
+use Rattle.visited_set.specs.Courses.{course_of}
 use Rattle.pool_search.specs.Entries.{lists, searched}
 use Rattle.pool_search.proofs.RunExtension.{keeps_nothing, reached_on}
 use Rattle.pool_search.proofs.explored.Explored.settle_and_keep.Goals as goal

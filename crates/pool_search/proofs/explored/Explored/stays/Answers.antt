@@ -12,6 +12,6 @@ loop-waiter-preserved c =
       same = c.stays_at.ensures.same ∙ l.invariant.same;
       program = c.stays_at.ensures.program ∙ l.invariant.program;
       so_far = λ rest.
-          one_more_stays (searched c.args.self.now) (searched l.self) (entries c.args.self.now) (entries l.self) c.args.waiters.now.list.items items c.args.object l.waiter-index _ l.invariant.program
+          one_more_stays (searched c.args.self.now) (searched l.self) (entries c.args.self.now) (entries l.self) c.args.suspect.now.waiters.now.list.items items c.args.suspect.now.object l.waiter-index _ l.invariant.program
           l.invariant.same inside (c.in-Ok-true.ensures.stays (ap Ok c.in-Ok-true.field-0-test)) l.invariant.so_far rest;
     }

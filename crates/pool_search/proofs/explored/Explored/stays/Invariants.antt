@@ -10,6 +10,6 @@ invariant-loop-waiter l =
     record {
       same : entries l.self ≡ entries l.initial.self;
       program : searched l.self ≡ searched l.initial.self;
-      so_far : Each (StaysAt (searched l.initial.self) (entries l.initial.self) l.waiters.list.items l.object) (drop l.waiter-index l.waiter-items)
-          → Each (StaysAt (searched l.initial.self) (entries l.initial.self) l.waiters.list.items l.object) l.waiter-items;
+      so_far : Each (StaysAt (searched l.initial.self) (entries l.initial.self) l.suspect.waiters.now.list.items l.suspect.object) (drop l.waiter-index l.waiter-items)
+          → Each (StaysAt (searched l.initial.self) (entries l.initial.self) l.suspect.waiters.now.list.items l.suspect.object) l.waiter-items;
     }

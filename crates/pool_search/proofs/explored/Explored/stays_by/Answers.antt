@@ -12,9 +12,9 @@ use Rattle.search_laws.specs.Stubborn.{IsAwaited, is_served}
 use Rattle.pool_search.specs.Entries.{entries, searched}
 use Rattle.pool_search.specs.Leads.{IsBeside}
 use Rattle.pool_search.specs.Trials.{is_asked, is_tried}
-use Rattle.pool_search.specs.VisitedConfigurations.{entry}
+use Rattle.visited_set.specs.VisitedConfigurations.{entry}
 use Rattle.pool_search.proofs.ListGrowth.{each_at}
-use Rattle.pool_search.proofs.TrialResults.{not_true}
+use Rattle.visited_set.proofs.Laws.{not_true}
 use Rattle.pool_search.proofs.WaiterLaws.{stays_by_those}
 use Rattle.pool_search.proofs.explored.Explored.stays_by.Goals as goal
 
@@ -22,7 +22,7 @@ pub returns-in-Ok-Led-clause-stays : goal.returns-in-Ok-Led-clause-stays
 returns-in-Ok-Led-clause-stays c = λ yes e g.
     let p = searched c.args.self.now in
     let es = entries c.args.self.now in
-    let ws = c.args.waiters.now.list.items in
+    let ws = c.args.suspect.now.waiters.now.list.items in
     let b = c.args.served in
     let n = c.args.next in
     let at = configuration_of c.args.plain.now in
@@ -33,8 +33,8 @@ returns-in-Ok-Led-clause-stays c = λ yes e g.
     c.requires.there.1 (c.is_only_awaited.ensures c.if-not-is_only_awaited.false)) sorted
     in
     let tried : is_tried c.in-Ok-Led.field-0 ≡ true = ap is_tried c.in-Ok-Led.field-0-is in
-    stays_by_those p es ws c.args.object c.args.at n at e b c.in-Ok-Led.field-0-0 c.requires.there g enough
-    (subst (λ ls. Each (IsBeside p es ws c.args.object n at) (filter (is_asked (Some b)) ls)) c.requires.labels (c.in-Ok-Led.ensures.tried tried))
+    stays_by_those p es ws c.args.suspect.now.object c.args.at n at e b c.in-Ok-Led.field-0-0 c.requires.there g enough
+    (subst (λ ls. Each (IsBeside p es ws c.args.suspect.now.object n at) (filter (is_asked (Some b)) ls)) c.requires.labels (c.in-Ok-Led.ensures.tried tried))
     (c.in-Ok-Led.ensures.led c.in-Ok-Led.field-0-0 (ap Ok c.in-Ok-Led.field-0-is))
 
 pub returns-then-not-serves_some-clause-same : goal.returns-then-not-serves_some-clause-same

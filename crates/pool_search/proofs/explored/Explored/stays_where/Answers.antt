@@ -22,8 +22,8 @@ pub returns-clause-stays : goal.returns-clause-stays
 returns-clause-stays c = λ told e g.
     let p = searched c.args.self.now in
     let es = entries c.args.self.now in
-    let ws = c.args.waiters.now.list.items in
-    let o = c.args.object in
+    let ws = c.args.suspect.now.waiters.now.list.items in
+    let o = c.args.suspect.now.object in
     let n = c.args.next in
     let at = configuration_of c.args.plain.now in
     let asked = filter (is_asked None) in

@@ -2,7 +2,7 @@ use Rattle.std.proofs.Common.{ap, subst, sym, ◌∙◌, Ok}
 use Rattle.pool_syntax.specs.Terms.{ProgramTree}
 use Rattle.reachability.specs.Labels.{labels_to_try}
 use Rattle.search_laws.specs.Tried.{IsExpanded}
-use Rattle.pool_search.specs.Courses.{course_of}
+use Rattle.visited_set.specs.Courses.{course_of}
 use Rattle.pool_search.specs.Entries.{entries, searched}
 use Rattle.pool_search.specs.Trials.{CanMove}
 use Rattle.pool_search.proofs.EntryExpansion.{still_there, still_within, was_there}

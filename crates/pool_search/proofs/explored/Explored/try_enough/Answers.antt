@@ -4,7 +4,7 @@ use Rattle.std.specs.List.{filter}
 use Rattle.pool_syntax.specs.Terms.{ProgramTree}
 use Rattle.search_laws.specs.Outcomes.{Passed}
 use Rattle.search_laws.specs.Tried.{AllLeadInto, IsExpanded}
-use Rattle.pool_search.specs.Courses.{course_of}
+use Rattle.visited_set.specs.Courses.{course_of}
 use Rattle.pool_search.specs.Entries.{entries, searched}
 use Rattle.pool_search.specs.Trials.{is_asked, is_tried, CanMove}
 use Rattle.pool_search.proofs.EntryExpansion.{by_all, can_move, still_there}

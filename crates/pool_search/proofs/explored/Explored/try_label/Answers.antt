@@ -1,5 +1,5 @@
 use Rattle.std.proofs.Common.{inr, ap, Ok}
-use Rattle.pool_search.specs.Courses.{course_of}
+use Rattle.visited_set.specs.Courses.{course_of}
 use Rattle.pool_search.specs.Entries.{entries, searched}
 use Rattle.pool_search.proofs.EntryExpansion.{leads_by}
 use Rattle.pool_search.proofs.explored.Explored.try_label.Goals as goal

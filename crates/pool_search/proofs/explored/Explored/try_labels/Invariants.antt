@@ -3,7 +3,7 @@ use Rattle.std.specs.List.{filter}
 use Rattle.search_laws.specs.Outcomes.{Passed}
 use Rattle.search_laws.specs.Tried.{AllLeadInto}
 use Rattle.pool_search.specs.declared.choices.Trial.TheVariants as T
-use Rattle.pool_search.specs.Courses.{course_of}
+use Rattle.visited_set.specs.Courses.{course_of}
 use Rattle.pool_search.specs.Entries.{entries, searched}
 use Rattle.pool_search.specs.Progress.{Grows}
 use Rattle.pool_search.specs.Trials.{is_asked, is_tried, OneLeadsOn}

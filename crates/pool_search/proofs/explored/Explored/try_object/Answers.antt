@@ -8,7 +8,7 @@ use Rattle.reachability.specs.Search.{IsInOrder}
 use Rattle.search_laws.specs.Outcomes.{Passed}
 use Rattle.search_laws.specs.Stubborn.{IsAwaited, is_served}
 use Rattle.search_laws.specs.Tried.{AllLeadInto}
-use Rattle.pool_search.specs.Courses.{course_of}
+use Rattle.visited_set.specs.Courses.{course_of}
 use Rattle.pool_search.specs.Entries.{entries, searched}
 use Rattle.pool_search.specs.Trials.{is_asked, is_tried}
 use Rattle.pool_search.proofs.EntryExpansion.{by_those, can_move}

@@ -3,7 +3,7 @@ use Rattle.std.specs.Prelude.{IfSome}
 use Rattle.search_laws.specs.Outcomes.{Passed}
 use Rattle.reachability.specs.Search.{WaitsAt}
 use Rattle.pool_search.specs.Entries.{entries, searched}
-use Rattle.pool_search.specs.WaiterLists.{HasWaiter}
+use Rattle.visited_set.specs.WaiterLists.{HasWaiter}
 use Rattle.pool_search.proofs.WaiterLaws.{filled_more, known_filled}
 use Rattle.pool_search.proofs.explored.Explored.waiters.Goals as goal
 

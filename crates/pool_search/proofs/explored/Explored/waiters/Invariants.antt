@@ -3,7 +3,7 @@ use Rattle.run_types.specs.Tables.{Each}
 use Rattle.reachability.specs.Search.{WaitsAt}
 use Rattle.search_laws.specs.Outcomes.{Passed}
 use Rattle.pool_search.specs.Entries.{entries, searched}
-use Rattle.pool_search.specs.WaiterLists.{HasWaiter, IsOpen}
+use Rattle.visited_set.specs.WaiterLists.{HasWaiter, IsOpen}
 use Rattle.pool_search.proofs.explored.Explored.waiters.Given as goal
 
 -- the objects that wait in the entries before this one are waiters

@@ -1,8 +1,0 @@
-use Rattle.std.proofs.Common.{◌≡◌, ◌++◌, map, drop}
-use Rattle.reachability.specs.Labels.{message_labels}
-use Rattle.pool_search.specs.Numbers.{queue_messages}
-use Rattle.pool_search.proofs.labelling.push_all_takes.Given as goal
-
--- the takes so far, with those that are left
-abbrev pub invariant-loop-queue : goal.invariant-loop-queue
-invariant-loop-queue l = l.into.items ++ message_labels (map (queue_messages l.lists) (drop l.queue-index l.queues)) ≡ l.initial.into.items ++ message_labels (map (queue_messages l.lists) l.queues)
