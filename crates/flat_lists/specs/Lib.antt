@@ -1,2 +1,3 @@
 -- Internal: what it does not.
 pub mod Ends
+pub mod Units

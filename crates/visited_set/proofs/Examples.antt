@@ -38,9 +38,9 @@ two_objects x y w = refl
 two_queues : (m n : Message) (xs : List Object) → (numbered xs ((m ∷ []) ∷ (m ∷ n ∷ []) ∷ []) (a_row 0 0 [] (a_queue 3 4 1 ∷ a_queue 4 3 0 ∷ []))).messages ≡ ((3, 4), m ∷ n ∷ []) ∷ ((4, 3), m ∷ []) ∷ []
 two_queues m n xs = refl
 
--- what stands after the last head is no row
-two_rows : (h : Head) (o os : List ℕ) (q qs rs : List Queue) → rows_of (h ∷ []) (o ∷ os ∷ []) (q ∷ qs ∷ rs ∷ []) ≡ a_row h.next h.written o q ∷ []
-two_rows h o os q qs rs = refl
+-- what stands after the last head is no row; an object has the state 70,000, and another one the state 7
+two_rows : (h : Head) (os : List ℕ) (q qs rs : List Queue) → rows_of (h ∷ []) ((65535 ∷ 1 ∷ 4464 ∷ 7 ∷ []) ∷ os ∷ []) (q ∷ qs ∷ rs ∷ []) ≡ a_row h.next h.written (70000 ∷ 7 ∷ []) q ∷ []
+two_rows h os q qs rs = refl
 
 -- the list of two
 two_kept : (k : VisitedSet) (xs : List Object) (ws : List (List Item)) (d e : Row) → known_states k.moves ≡ xs → lists_of k.writings ≡ ws → k.rows ≡ d ∷ e ∷ []

@@ -2,12 +2,13 @@
 use Rattle.std.proofs.Common.{◌≡◌, refl, ap, ap₂, ◌∙◌, ℕ, zero, suc, ◌≤◌, List, [], ◌∷◌, ◌++◌, length, take, Some, None, arith, length-append}
 use Rattle.std.specs.List.{slice_get}
 use Rattle.std.proofs.lemmas.List.{length-take-le}
+use Rattle.flat_lists.specs.Units.{numbers_of}
 use Rattle.visited_set.specs.declared.numbered.Queue.{Queue}
 use Rattle.visited_set.specs.declared.kept_rows.Head.{Head}
 use Rattle.visited_set.specs.Rows.{Row, rows_of}
 
 abbrev pub row : Head → List ℕ → List Queue → Row
-row h o q = record { next = h.next; written = h.written; objects = o; queues = q }
+row h o q = record { next = h.next; written = h.written; objects = numbers_of o; queues = q }
 
 pub length_rows : (hs : List Head) (os : List (List ℕ)) (qs : List (List Queue)) → length hs ≤ length os → length hs ≤ length qs → length (rows_of hs os qs) ≡ length hs
 length_rows [] os qs k l = refl

@@ -1,8 +1,9 @@
 //! Equality and hashes of numbered configurations.
 ghost use Rattle.std.specs.Prelude.{◌≡◌, true};
-ghost use Rattle.visited_set.specs.Rows.{row_of};
+ghost use Rattle.visited_set.specs.Rows.{row_of, stored_row};
 
-use crate::numbered::{Numbered, Queue};
+use crate::numbered::{Numbered, Queue, Stored};
+use flat_lists::is_packed;
 use std::hash::{FoldHasher, Hasher};
 
 fn same_queue(left: Queue, right: Queue) -> bool
@@ -25,19 +26,13 @@ fn same_queues(left: &[Queue], right: &[Queue]) -> bool
     true
 }
 
-fn same_numbers(left: &[u32], right: &[u32]) -> bool
-    ensures { result ≡ true → left.now ≡ right.now }
-{
-    left == right
-}
-
 /// Whether two configurations, their next names and the numbers of what was written are the same.
-pub fn same_numbered(left: &Numbered<'_>, right: &Numbered<'_>) -> bool
-    ensures { result ≡ true → row_of left.now ≡ row_of right.now }
+pub fn same_row(left: &Stored<'_>, right: &Numbered<'_>) -> bool
+    ensures { result ≡ true → stored_row left.now ≡ row_of right.now }
 {
     left.next == right.next
         && left.written == right.written
-        && same_numbers(left.objects, right.objects)
+        && is_packed(left.objects, right.objects)
         && same_queues(left.queues, right.queues)
 }
 

@@ -8,6 +8,7 @@
 mod awaited;
 mod equality;
 mod hints;
+mod index;
 mod keeps;
 mod kept_rows;
 mod labelling;
@@ -25,8 +26,10 @@ pub use waiters::{Waiter, Waiters};
 pub use writings::{item_of, mark_item, same_item};
 // A crate can name a set in a contract only if the types of its fields are exported.
 #[doc(hidden)]
+pub use index::Index;
+#[doc(hidden)]
 pub use kept_rows::{Head, Rows};
 #[doc(hidden)]
-pub use numbered::{Numbered, Queue};
+pub use numbered::{Numbered, Queue, Stored};
 #[doc(hidden)]
 pub use writings::{Node, Writings};

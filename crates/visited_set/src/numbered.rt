@@ -1,4 +1,7 @@
 //! A configuration as numbers of object states and of lists of messages.
+ghost use Rattle.std.specs.Prelude.{◌≡◌};
+ghost use Rattle.flat_lists.specs.Units.{numbers_of};
+ghost use Rattle.visited_set.specs.Rows.{row_of, stored_row};
 
 /// The messages from one sender to one receiver, the oldest first, as the number of their list.
 #[derive(Clone, Copy)]
@@ -16,4 +19,28 @@ pub struct Numbered<'b> {
     pub written: u32,
     pub objects: &'b [u32],
     pub queues: &'b [Queue],
+}
+
+/// A configuration of the set: the same, but the numbers of the objects' states are in units of 16 bits.
+#[derive(Clone, Copy)]
+pub struct Stored<'b> {
+    pub next: u32,
+    pub written: u32,
+    pub objects: &'b [u16],
+    pub queues: &'b [Queue],
+}
+
+impl<'b> Stored<'b> {
+    /// The configuration, of which these are the numbers of the objects' states.
+    pub fn with(&self, objects: &'b [u32]) -> Numbered<'b>
+        requires { objects.now ≡ numbers_of self.now.objects.now }
+        ensures { row_of result ≡ stored_row self.now }
+    {
+        Numbered {
+            next: self.next,
+            written: self.written,
+            objects,
+            queues: self.queues,
+        }
+    }
 }

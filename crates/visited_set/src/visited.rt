@@ -6,7 +6,7 @@ ghost use Rattle.visited_set.specs.Numbers.{EntryInvariant, IsNamed};
 ghost use Rattle.visited_set.specs.WritingsOf.{lists_of};
 
 use crate::awaited::{has_error, is_only_awaited};
-use crate::equality::{mark, same_numbered};
+use crate::equality::mark;
 use crate::hints::Hints;
 use crate::keeps::Keeps;
 use crate::kept_rows::Rows;
@@ -16,6 +16,8 @@ use crate::numbered::{Numbered, Queue};
 use crate::restored::{messages_at, objects_at};
 use crate::waiters::Waiters;
 use crate::writings::Writings;
+use flat_lists::{packed_at, unpack};
+use known_names::is_serving;
 use mail_numbers::MailLists;
 use message_queue::MessageQueue;
 use object_moves::{Lead, MoveTable};
@@ -23,7 +25,7 @@ use pool_semantics::{Plain, State};
 use pool_syntax::Program;
 use run_types::{Item, Label};
 use std::alloc::{AllocError, Global};
-use std::collections::{BTreeMap, HashMap};
+use std::collections::BTreeMap;
 use stepper_objects::object_state::ObjectState;
 
 /// The number of a configuration that was already in the set, or was added.
@@ -47,9 +49,9 @@ pub enum Found {
 }
 
 /// Configurations of one program, each with its next free name and what was written, as a row of numbers: of the states of
-/// its objects, of its lists of messages, and of the list of what was written. `latest` has the last one of each hash.
-/// At most 2^32 configurations, 2^32 - 1 object states and 2^32 lists of messages fit. A
-/// configuration can be in the set twice after a collision of hashes, also of those of messages.
+/// its objects, of its lists of messages, and of the list of what was written. At most 2^32 configurations, 2^32 - 1 object
+/// states and 2^32 lists of messages fit. A configuration can be in the set twice after a collision of the hashes of
+/// messages or of object states, which then have two numbers.
 #[derive(Drop)]
 pub struct VisitedSet<'a> {
     alloc: Global,
@@ -57,7 +59,6 @@ pub struct VisitedSet<'a> {
     writings: Writings,
     mails: MailLists,
     rows: Rows,
-    latest: HashMap<u64, u32>,
     ghost kept: { All (EntryInvariant (table_program moves) (known_states moves) mails) rows },
     ghost named: { All (IsNamed (lists_of writings)) rows },
 }
@@ -75,7 +76,7 @@ impl<'a> VisitedSet<'a> {
     ghost use Rattle.search_laws.specs.Stubborn.{IsAwaited, is_served};
     ghost use Rattle.object_moves.specs.Rows.{objects_from};
     ghost use Rattle.visited_set.specs.Numbers.{AreListed, AreNamedFrom, passed, queue_messages};
-    ghost use Rattle.visited_set.specs.Rows.{row_of};
+    ghost use Rattle.visited_set.specs.Rows.{row_of, stored_row};
     ghost use Rattle.run_types.specs.Tables.{pair_cmp};
     ghost use Rattle.pool_semantics.specs.Mails.{posts};
     ghost use Rattle.pool_relation.specs.Configuration.{Configuration};
@@ -109,7 +110,6 @@ impl<'a> VisitedSet<'a> {
             writings: Writings::make(alloc),
             mails: MailLists::make(alloc),
             rows: Rows::make(alloc),
-            latest: HashMap::new(alloc),
         }
     }
 
@@ -169,7 +169,8 @@ impl<'a> VisitedSet<'a> {
         ensures fresh { IfOk result (λ s. is_spent s ≡ false) }
     {
         let entry = self.rows.get(at);
-        let objects = objects_at(self.alloc, &self.moves, entry.objects)?;
+        let numbers = unpack(self.alloc, entry.objects)?;
+        let objects = objects_at(self.alloc, &self.moves, numbers.as_slice())?;
         let messages = messages_at(self.alloc, &self.mails, entry.queues)?;
         Ok(Plain::of(State {
             alloc: self.alloc,
@@ -179,20 +180,11 @@ impl<'a> VisitedSet<'a> {
         }))
     }
 
-    /// The index of this configuration, if it is the last one of its hash.
+    /// The index of this configuration, which has this hash. None if it is not found.
     fn seen(&self, mark: u64, found: &Numbered<'_>) -> Option<u32>
         ensures { IfSome result (λ i. slice_get (kept_list self.now) i ≡ Some (passed (known_states self.now.moves) self.now.mails (kept_lists self.now) (row_of found.now))) }
     {
-        let at = *self.latest.get(&mark)?;
-        if at as usize >= self.rows.len() {
-            return None;
-        }
-        let entry = self.rows.get(at as usize);
-        if same_numbered(&entry, found) {
-            Some(at)
-        } else {
-            None
-        }
+        self.rows.find(mark, found)
     }
 
     /// Adds a configuration, and returns its index. None if the
@@ -210,8 +202,7 @@ impl<'a> VisitedSet<'a> {
         let Ok(at) = u32::try_from(self.rows.len()) else {
             return Ok(None);
         };
-        self.latest.insert(mark, at)?;
-        self.rows.push(found)?;
+        self.rows.push(mark, found)?;
         Ok(Some(at))
     }
 
@@ -340,10 +331,17 @@ impl<'a> VisitedSet<'a> {
         ensures { IfSome (slice_get (kept_list self.now) at) (λ e. OnOk result (into.new.items ≡ into.old.items ++ labels_to_try (kept_program self.now) e.next e.configuration)) }
     {
         let entry = self.rows.get(at);
-        push_to_try(into, &self.moves, &self.mails, &entry)
+        let numbers = unpack(self.alloc, entry.objects)?;
+        push_to_try(
+            into,
+            &self.moves,
+            &self.mails,
+            &entry.with(numbers.as_slice()),
+        )
     }
 
-    /// Whether only objects that wait for this object know its name, in the configuration at this index.
+    /// Whether only objects that wait for this object know its name, in the configuration at this index. If
+    /// memory runs out, nothing is said.
     pub fn is_only_awaited(&self, at: usize, object: u32) -> bool
         requires { at < length (kept_list self.now) }
         ensures { result ≡ true → IfSome (slice_get (kept_list self.now) at) (λ e. IsInOrder e.configuration
@@ -351,7 +349,30 @@ impl<'a> VisitedSet<'a> {
             → IsAwaited (kept_program self.now) e.next object e.configuration) }
     {
         let entry = self.rows.get(at);
-        is_only_awaited(&self.moves, &self.mails, &entry, object)
+        if !self.is_serving(entry.objects, object) {
+            return false;
+        }
+        match unpack(self.alloc, entry.objects) {
+            Ok(numbers) => is_only_awaited(
+                &self.moves,
+                &self.mails,
+                &entry.with(numbers.as_slice()),
+                object,
+            ),
+            Err(_) => false,
+        }
+    }
+
+    /// Whether the object is at an `answer` or a `select`, where these units have the numbers of the objects' states. No proof
+    /// depends on it.
+    fn is_serving(&self, units: &[u16], object: u32) -> bool {
+        let Some(number) = packed_at(units, object as usize) else {
+            return false;
+        };
+        match self.moves.get(number) {
+            Some(thing) => is_serving(self.moves.program(), object, thing),
+            None => false,
+        }
     }
 
     /// The names below 64, as bits, that some object of the configuration at this index knows which neither has the name nor
@@ -360,15 +381,19 @@ impl<'a> VisitedSet<'a> {
         requires { at < length (kept_list self.now) }
     {
         let entry = self.rows.get(at);
-        hints.known(&self.moves, &entry)
+        let numbers = unpack(self.alloc, entry.objects)?;
+        hints.known(&self.moves, &entry.with(numbers.as_slice()))
     }
 
-    /// Whether an object has met an error in the configuration at this index.
+    /// Whether an object has met an error in the configuration at this index. If memory runs out, it is not ruled out.
     pub fn has_error(&self, at: usize) -> bool
         requires { at < length (kept_list self.now) }
         ensures { result ≡ false → IfSome (slice_get (kept_list self.now) at) (λ e. ¬ (IsFaulty e.configuration)) }
     {
-        has_error(&self.moves, self.rows.get(at).objects)
+        match unpack(self.alloc, self.rows.get(at).objects) {
+            Ok(numbers) => has_error(&self.moves, numbers.as_slice()),
+            Err(_) => true,
+        }
     }
 
     /// Adds the objects that wait in the configuration at this index, as those of the next entry. `false` if no name of 32
@@ -384,7 +409,8 @@ impl<'a> VisitedSet<'a> {
         ensures none_noted { OnOk result (Each IsOpen waiters.old.list.items → Each IsOpen waiters.new.list.items) }
         ensures all { result ≡ Ok true → IfSome (slice_get (kept_list self.now) at) (λ e. (o : ℕ) → WaitsAt (kept_program self.now) e.configuration o → HasWaiter false entry o waiters.new.list.items) }
     {
-        waiters.add(entry, &self.moves, self.rows.get(at).objects)
+        let numbers = unpack(self.alloc, self.rows.get(at).objects)?;
+        waiters.add(entry, &self.moves, numbers.as_slice())
     }
 
     /// Looks up where the label leads from the configuration at this index, after transitions that are followed. If that
@@ -418,7 +444,7 @@ impl<'a> VisitedSet<'a> {
             × (kept_list self.new ≡ kept_list self.old ++ entry next (get_or (kept_lists self.old) written []) to ∷ []) × (i ≡ length (kept_list self.old))) }
     {
         let from = self.rows.get(at);
-        let mut objects = Vec::from_slice(self.alloc, from.objects)?;
+        let mut objects = unpack(self.alloc, from.objects)?;
         let mut messages = messages_at(self.alloc, &self.mails, from.queues)?;
         match self
             .moves

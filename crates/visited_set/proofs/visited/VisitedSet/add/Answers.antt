@@ -17,12 +17,6 @@ returns-in_default-clause-program c = refl
 pub returns-in_default-clause-lists : goal.returns-in_default-clause-lists
 returns-in_default-clause-lists c = refl
 
-pub returns-in_err-insert-clause-program : goal.returns-in_err-insert-clause-program
-returns-in_err-insert-clause-program c = refl
-
-pub returns-in_err-insert-clause-lists : goal.returns-in_err-insert-clause-lists
-returns-in_err-insert-clause-lists c = refl
-
 pub returns-in_err-push-clause-program : goal.returns-in_err-push-clause-program
 returns-in_err-push-clause-program c = refl
 

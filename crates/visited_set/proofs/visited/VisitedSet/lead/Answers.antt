@@ -10,7 +10,7 @@ use Rattle.pool_semantics.specs.Mails.{posts}
 use Rattle.object_moves.specs.Tables.{known_states, table_program}
 use Rattle.visited_set.specs.Courses.{course_of}
 use Rattle.visited_set.specs.Numbers.{AreListed, EntryInvariant, numbered, passed, queue_messages}
-use Rattle.visited_set.specs.Rows.{Row, row_of}
+use Rattle.visited_set.specs.Rows.{Row, stored_row}
 use Rattle.visited_set.specs.VisitedConfigurations.{kept_list, kept_lists, kept_program}
 use Rattle.visited_set.proofs.StateTableGrowth.{all_still_with, list_still, same_front}
 use Rattle.visited_set.proofs.KnownLeads.{IsMade, row_is_numbered, made_between, impossible_from, kept_made, seen_from, added_from}
@@ -56,8 +56,8 @@ pub returns-in-Ok-Impossible-clause-impossible : goal.returns-in-Ok-Impossible-c
 returns-in-Ok-Impossible-clause-impossible c = λ told.
     let k = c.args.self.now in
     let xs = known_states k.moves in
-    let e = row_of c.get-from.result in
-    let from = row_is_numbered xs xs k.mails e c.in_ok-objects.objects.items (posts c.in_ok-messages.messages.entries) refl c.in_ok-objects.ensures.items c.in_ok-messages.ensures in (
+    let e = stored_row c.get-from.result in
+    let from = row_is_numbered xs xs k.mails e c.in_ok-objects.objects.items (posts c.in_ok-messages.messages.entries) refl c.in_ok-objects.ensures c.in_ok-messages.ensures in (
       list_still k.mails k.mails (same_front k.mails) (known_states k.moves) (known_states c.lead.new.self) c.lead.ensures.grows (table_program k.moves) (kept_lists k) k.rows k.kept,
       impossible_from (table_program k.moves) xs (known_states c.lead.new.self) k.mails k.mails (kept_lists k) k.rows c.args.at e c.args.label.now c.get-from.ensures
           (ap (λ z. transition (table_program k.moves) z c.args.label.now) (sym from) ∙ c.in-Ok-Impossible.ensures.impossible (ap Ok c.in-Ok-Impossible.field-0-is)),
@@ -70,10 +70,10 @@ add-requires-clause-kept c =
     let p = table_program k.moves in
     let xs = known_states k.moves in
     let ys = known_states j.moves in
-    let e = row_of c.get-from.result in
+    let e = stored_row c.get-from.result in
     let f : Row = record { next = c.args.next; written = c.args.written; objects = c.as_slice.result.now; queues = c.as_slice-2.result.now } in
     let moved = c.lead.new.moved.items in
-    let from = row_is_numbered xs xs k.mails e c.in_ok-objects.objects.items (posts c.in_ok-messages.messages.entries) refl c.in_ok-objects.ensures.items c.in_ok-messages.ensures in
+    let from = row_is_numbered xs xs k.mails e c.in_ok-objects.objects.items (posts c.in_ok-messages.messages.entries) refl c.in_ok-objects.ensures c.in_ok-messages.ensures in
     let queues : map (queue_messages j.mails) c.in-Some.queues.items ≡ posts c.lead.new.messages.entries = rw c.in-Some.is at c.in_ok-queues.ensures.queues in
     let waiting : posts c.lead.new.messages.entries ≡ map (queue_messages j.mails) f.queues = sym (ap (map (queue_messages j.mails)) c.as_slice-2.ensures.value ∙ queues) in
     let to = row_is_numbered (known_states c.lead.new.self) ys j.mails f c.lead.new.numbers.items (posts c.lead.new.messages.entries) (sym c.queues.ensures.states) (sym c.as_slice.ensures.value) waiting in
@@ -93,10 +93,10 @@ returns-in-Some-seen-clause-seen c = λ i told.
     let p = table_program k.moves in
     let xs = known_states k.moves in
     let ys = known_states j.moves in
-    let e = row_of c.get-from.result in
+    let e = stored_row c.get-from.result in
     let f : Row = record { next = c.args.next; written = c.args.written; objects = c.as_slice.result.now; queues = c.as_slice-2.result.now } in
     let moved = c.lead.new.moved.items in
-    let from = row_is_numbered xs xs k.mails e c.in_ok-objects.objects.items (posts c.in_ok-messages.messages.entries) refl c.in_ok-objects.ensures.items c.in_ok-messages.ensures in
+    let from = row_is_numbered xs xs k.mails e c.in_ok-objects.objects.items (posts c.in_ok-messages.messages.entries) refl c.in_ok-objects.ensures c.in_ok-messages.ensures in
     let queues : map (queue_messages j.mails) c.in-Some.queues.items ≡ posts c.lead.new.messages.entries = rw c.in-Some.is at c.in_ok-queues.ensures.queues in
     let waiting : posts c.lead.new.messages.entries ≡ map (queue_messages j.mails) f.queues = sym (ap (map (queue_messages j.mails)) c.as_slice-2.ensures.value ∙ queues) in
     let to = row_is_numbered (known_states c.lead.new.self) ys j.mails f c.lead.new.numbers.items (posts c.lead.new.messages.entries) (sym c.queues.ensures.states) (sym c.as_slice.ensures.value) waiting in
@@ -115,10 +115,10 @@ returns-in-Some-2-clause-added c = λ i told.
     let p = table_program k.moves in
     let xs = known_states k.moves in
     let ys = known_states j.moves in
-    let e = row_of c.get-from.result in
+    let e = stored_row c.get-from.result in
     let f : Row = record { next = c.args.next; written = c.args.written; objects = c.as_slice.result.now; queues = c.as_slice-2.result.now } in
     let moved = c.lead.new.moved.items in
-    let from = row_is_numbered xs xs k.mails e c.in_ok-objects.objects.items (posts c.in_ok-messages.messages.entries) refl c.in_ok-objects.ensures.items c.in_ok-messages.ensures in
+    let from = row_is_numbered xs xs k.mails e c.in_ok-objects.objects.items (posts c.in_ok-messages.messages.entries) refl c.in_ok-objects.ensures c.in_ok-messages.ensures in
     let queues : map (queue_messages j.mails) c.in-Some.queues.items ≡ posts c.lead.new.messages.entries = rw c.in-Some.is at c.in_ok-queues.ensures.queues in
     let waiting : posts c.lead.new.messages.entries ≡ map (queue_messages j.mails) f.queues = sym (ap (map (queue_messages j.mails)) c.as_slice-2.ensures.value ∙ queues) in
     let to = row_is_numbered (known_states c.lead.new.self) ys j.mails f c.lead.new.numbers.items (posts c.lead.new.messages.entries) (sym c.queues.ensures.states) (sym c.as_slice.ensures.value) waiting in
