@@ -1,3 +1,0 @@
--- Internal: what it does not.
-pub mod LoneObject
-pub mod RunningMachine

@@ -1,0 +1,2 @@
+pub mod NodeActs
+pub mod WantedNumbers
