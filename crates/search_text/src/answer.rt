@@ -1,9 +1,11 @@
-//! The text of the result of a search.
+//! The answers of a search, by what it found.
 ghost use Rattle.std.specs.Prelude.{◌≡◌, ◌++◌, map, IfOk, OnOk};
 ghost use Rattle.record_writer.specs.RecordText.{item_text, led};
 ghost use Rattle.search_text.specs.AnswerText.{end_line, fault_text, ending, finite_text, kind_word, outcome_line, outcomes_text, over_text, run_text, stuck_text, wrong_text};
+ghost use Rattle.search_text.specs.declared.answers.Found.TheVariants as O;
 ghost use Rattle.wait_report.specs.Calls.{names_of, Rising};
 
+use crate::answers::{Answer, Found};
 use crate::steps::{other_than_local, push_steps};
 use label_list::LabelList;
 use pool_search::{EndKind, Outcome};
@@ -17,59 +19,68 @@ use waiting_objects::push_waiting;
 fn push_end(text: &mut Vec<u8>, word: &[u8], count: usize) -> Result<(), AllocError>
     ensures { OnOk result (text.new.items ≡ text.old.items ++ end_line word.now count) }
 {
-    text.extend_from_slice(b"end")?;
-    push_word(text, word)?;
-    push_count(text, count)?;
+    put!(text.extend_from_slice(b"end"));
+    put!(push_word(text, word));
+    put!(push_count(text, count));
     text.extend_from_slice(b"\n")
 }
 
-/// The text of a run that gets stuck: its steps, the objects
+/// The answer for a run that gets stuck: its steps, the objects
 /// that wait at its end, the cycles of calls, and the end line.
 /// Requires rows with rising names. An error means out of memory.
-pub fn stuck_text(
+pub fn waiting_answer(
     alloc: Global,
     names: &Names,
     labels: &LabelList,
     rows: &[ObjectRow],
-) -> Result<Vec<u8>, AllocError>
+) -> Result<Answer, AllocError>
     requires { Rising (names_of rows.now) }
-    ensures { IfOk result (λ text. text.items ≡ stuck_text names.now labels.now rows.now) }
+    ensures { IfOk result (λ a. (a.text.items ≡ stuck_text names.now labels.now rows.now) × (a.found ≡ O.Shown)) }
 {
     let mut text = Vec::new(alloc);
-    push_steps(&mut text, names, labels)?;
-    push_waiting(&mut text, names, rows)?;
-    put_each_cycle(alloc, &mut text, rows)?;
-    push_end(&mut text, b"stuck", other_than_local(labels))?;
-    Ok(text)
+    put!(push_steps(&mut text, names, labels));
+    put!(push_waiting(&mut text, names, rows));
+    put!(put_each_cycle(alloc, &mut text, rows));
+    put!(push_end(&mut text, b"stuck", other_than_local(labels)));
+    Ok(Answer {
+        text,
+        found: Found::Shown,
+    })
 }
 
-/// The text of a run that meets a run-time error: its steps, and the end line. An error means out of memory.
-pub fn fault_text(alloc: Global, names: &Names, labels: &LabelList) -> Result<Vec<u8>, AllocError>
-    ensures { IfOk result (λ text. text.items ≡ fault_text names.now labels.now) }
+/// The answer for a run that meets a run-time error: its steps, and the end line. An error means out of memory.
+pub fn fault_answer(alloc: Global, names: &Names, labels: &LabelList) -> Result<Answer, AllocError>
+    ensures { IfOk result (λ a. (a.text.items ≡ fault_text names.now labels.now) × (a.found ≡ O.Shown)) }
 {
     let mut text = Vec::new(alloc);
-    push_steps(&mut text, names, labels)?;
-    push_end(&mut text, b"fault", other_than_local(labels))?;
-    Ok(text)
+    put!(push_steps(&mut text, names, labels));
+    put!(push_end(&mut text, b"fault", other_than_local(labels)));
+    Ok(Answer {
+        text,
+        found: Found::Shown,
+    })
 }
 
-/// The text of a complete search without such a run. `kept` is
+/// The answer of a complete search that shows no run, with what it found. `kept` is
 /// the number of configurations. An error means out of memory.
-pub fn finite_text(alloc: Global, kept: usize) -> Result<Vec<u8>, AllocError>
-    ensures { IfOk result (λ text. text.items ≡ finite_text kept) }
+pub fn finite_answer(alloc: Global, kept: u32, found: Found) -> Result<Answer, AllocError>
+    ensures { IfOk result (λ a. (a.text.items ≡ finite_text kept) × (a.found ≡ found)) }
 {
     let mut text = Vec::new(alloc);
-    push_end(&mut text, b"finite", kept)?;
-    Ok(text)
+    put!(push_end(&mut text, b"finite", kept as usize));
+    Ok(Answer { text, found })
 }
 
-/// The text of a search that met a bound. `kept` is the number of configurations. An error means out of memory.
-pub fn over_text(alloc: Global, kept: usize) -> Result<Vec<u8>, AllocError>
-    ensures { IfOk result (λ text. text.items ≡ over_text kept) }
+/// The answer of a search that met a bound. `kept` is the number of configurations. An error means out of memory.
+pub fn over_answer(alloc: Global, kept: u32) -> Result<Answer, AllocError>
+    ensures { IfOk result (λ a. (a.text.items ≡ over_text kept) × (a.found ≡ O.Over)) }
 {
     let mut text = Vec::new(alloc);
-    push_end(&mut text, b"over", kept)?;
-    Ok(text)
+    put!(push_end(&mut text, b"over", kept as usize));
+    Ok(Answer {
+        text,
+        found: Found::Over,
+    })
 }
 
 /// The word for the kind of an end.
@@ -89,7 +100,7 @@ pub fn push_items(text: &mut Vec<u8>, names: &Names, items: &[Item]) -> Result<(
     ensures { OnOk result (text.new.items ≡ text.old.items ++ led (map (item_text names.now) items.now)) }
 {
     for item in items {
-        push_item(text, names, *item)?;
+        put!(push_item(text, names, *item));
     }
     Ok(())
 }
@@ -98,9 +109,9 @@ pub fn push_items(text: &mut Vec<u8>, names: &Names, items: &[Item]) -> Result<(
 fn push_outcome(text: &mut Vec<u8>, names: &Names, outcome: &Outcome) -> Result<(), AllocError>
     ensures { OnOk result (text.new.items ≡ text.old.items ++ outcome_line names.now outcome.now) }
 {
-    text.extend_from_slice(b"wrote")?;
-    push_word(text, kind_word(outcome.kind))?;
-    push_items(text, names, &outcome.items)?;
+    put!(text.extend_from_slice(b"wrote"));
+    put!(push_word(text, kind_word(outcome.kind)));
+    put!(push_items(text, names, &outcome.items));
     text.extend_from_slice(b"\n")
 }
 
@@ -128,39 +139,46 @@ pub fn outcomes_text(
 {
     let mut text = Vec::new(alloc);
     for outcome in list {
-        push_outcome(&mut text, names, outcome)?;
+        put!(push_outcome(&mut text, names, outcome));
     }
-    push_ending(&mut text, whole, kept)?;
+    put!(push_ending(&mut text, whole, kept));
     Ok(text)
 }
 
-/// The text of a run that ends in this way: its steps, and the end line. An error means out of memory.
-pub fn run_text(
+/// The answer for a run that ends in this way: its steps, and the end line. An error means out of memory.
+pub fn shown_answer(
     alloc: Global,
     names: &Names,
     kind: EndKind,
     labels: &LabelList,
-) -> Result<Vec<u8>, AllocError>
-    ensures { IfOk result (λ text. text.items ≡ run_text names.now kind labels.now) }
+) -> Result<Answer, AllocError>
+    ensures { IfOk result (λ a. (a.text.items ≡ run_text names.now kind labels.now) × (a.found ≡ O.Run)) }
 {
     let mut text = Vec::new(alloc);
-    push_steps(&mut text, names, labels)?;
-    push_end(&mut text, kind_word(kind), other_than_local(labels))?;
-    Ok(text)
+    put!(push_steps(&mut text, names, labels));
+    put!(push_end(&mut text, kind_word(kind), other_than_local(labels)));
+    Ok(Answer {
+        text,
+        found: Found::Run,
+    })
 }
 
-/// The text of a run with its outcome: its steps, the line of the outcome, and the end line. An error means out of memory.
-pub fn wrong_text(
+/// The answer for a run whose outcome is not allowed: its steps, the line of the outcome, and the end line. An error means
+/// out of memory.
+pub fn wrong_answer(
     alloc: Global,
     names: &Names,
     outcome: &Outcome,
     labels: &LabelList,
-) -> Result<Vec<u8>, AllocError>
-    ensures { IfOk result (λ text. text.items ≡ wrong_text names.now outcome.now labels.now) }
+) -> Result<Answer, AllocError>
+    ensures { IfOk result (λ a. (a.text.items ≡ wrong_text names.now outcome.now labels.now) × (a.found ≡ O.Shown)) }
 {
     let mut text = Vec::new(alloc);
-    push_steps(&mut text, names, labels)?;
-    push_outcome(&mut text, names, outcome)?;
-    push_end(&mut text, kind_word(outcome.kind), other_than_local(labels))?;
-    Ok(text)
+    put!(push_steps(&mut text, names, labels));
+    put!(push_outcome(&mut text, names, outcome));
+    put!(push_end(&mut text, kind_word(outcome.kind), other_than_local(labels)));
+    Ok(Answer {
+        text,
+        found: Found::Shown,
+    })
 }

@@ -7,7 +7,8 @@ ghost use Rattle.search_text.specs.Answers.{Answers, Grades, IsAnswerTo, ShowsRu
 ghost use Rattle.search_text.specs.Inquiries.{inquiry};
 
 use crate::answer::{
-    fault_text, finite_text, outcomes_text, over_text, run_text, stuck_text, wrong_text,
+    fault_answer, finite_answer, outcomes_text, over_answer, shown_answer, waiting_answer,
+    wrong_answer,
 };
 use crate::chosen::rows_of;
 use crate::grading::{first_wrong, is_allowed};
@@ -68,13 +69,13 @@ fn stuck_answer(
     requires { LeadsInOrder (program_of program.now.program.now) labels.now (IsWantedEnd (program_of program.now.program.now) question.now) }
     ensures { IfOk result (λ a. Answers names.now (program_of program.now.program.now) question.now a.text.items a.found) }
 {
-    let plain = replay(alloc, program, labels)?;
-    let rows = waiting_rows(alloc, &plain, question.all)?;
-    let text = stuck_text(alloc, names, labels, &rows)?;
-    Ok(Answer {
-        text,
-        found: Found::Shown,
-    })
+    let Ok(plain) = replay(alloc, program, labels) else {
+        return Err(AllocError);
+    };
+    let Ok(rows) = waiting_rows(alloc, &plain, question.all) else {
+        return Err(AllocError);
+    };
+    waiting_answer(alloc, names, labels, &rows)
 }
 
 /// The answer for a run after which these objects are dead. An error means out of memory.
@@ -89,14 +90,16 @@ fn dead_answer(
     requires { LeadsInOrder (program_of program.now.program.now) labels.now (IsWantedDead (program_of program.now.program.now) question.now dead.now) }
     ensures { IfOk result (λ a. Answers names.now (program_of program.now.program.now) question.now a.text.items a.found) }
 {
-    let plain = replay(alloc, program, labels)?;
-    let waiting = waiting_rows(alloc, &plain, false)?;
-    let rows = rows_of(alloc, &waiting, dead)?;
-    let text = stuck_text(alloc, names, labels, &rows)?;
-    Ok(Answer {
-        text,
-        found: Found::Shown,
-    })
+    let Ok(plain) = replay(alloc, program, labels) else {
+        return Err(AllocError);
+    };
+    let Ok(waiting) = waiting_rows(alloc, &plain, false) else {
+        return Err(AllocError);
+    };
+    let Ok(rows) = rows_of(alloc, &waiting, dead) else {
+        return Err(AllocError);
+    };
+    waiting_answer(alloc, names, labels, &rows)
 }
 
 /// The answer to the question for a run of some kind. An error means out of memory.
@@ -117,18 +120,9 @@ fn sought_answer<P: Progress>(
                 names: dead,
             },
         ) => { dead_answer(alloc, program, names, question, &labels, &dead) }
-        Ok(SearchResult::Fault(labels)) => Ok(Answer {
-            text: fault_text(alloc, names, &labels)?,
-            found: Found::Shown,
-        }),
-        Ok(SearchResult::Finite(kept)) => Ok(Answer {
-            text: finite_text(alloc, kept as usize)?,
-            found: Found::Finite,
-        }),
-        Ok(SearchResult::Over(kept)) => Ok(Answer {
-            text: over_text(alloc, kept as usize)?,
-            found: Found::Over,
-        }),
+        Ok(SearchResult::Fault(labels)) => fault_answer(alloc, names, &labels),
+        Ok(SearchResult::Finite(kept)) => finite_answer(alloc, kept, Found::Finite),
+        Ok(SearchResult::Over(kept)) => over_answer(alloc, kept),
         Err(AllocError) => Err(AllocError),
     }
 }
@@ -181,19 +175,13 @@ fn run_answer<P: Progress>(
 ) -> Result<Answer, AllocError>
     ensures { IfOk result (λ a. ShowsRun names.now (program_of program.now.program.now) place most a.text.items a.found) }
 {
-    match outcome_run(alloc, program, most, place.saturating_sub(1), progress)? {
-        OutcomeRun::Shown { outcome, labels } => Ok(Answer {
-            text: run_text(alloc, names, outcome.kind, &labels)?,
-            found: Found::Run,
-        }),
-        OutcomeRun::Finite(count) => Ok(Answer {
-            text: finite_text(alloc, count as usize)?,
-            found: Found::Missing,
-        }),
-        OutcomeRun::Over(count) => Ok(Answer {
-            text: over_text(alloc, count as usize)?,
-            found: Found::Over,
-        }),
+    match outcome_run(alloc, program, most, place.saturating_sub(1), progress) {
+        Ok(OutcomeRun::Shown { outcome, labels }) => {
+            shown_answer(alloc, names, outcome.kind, &labels)
+        }
+        Ok(OutcomeRun::Finite(count)) => finite_answer(alloc, count, Found::Missing),
+        Ok(OutcomeRun::Over(count)) => over_answer(alloc, count),
+        Err(_) => Err(AllocError),
     }
 }
 
@@ -217,10 +205,7 @@ fn graded_answer<P: Progress>(
         alloc, program, most, place, progress,
     )? {
         if !is_allowed(alloc, names, allowed, &outcome)? {
-            return Ok(Answer {
-                text: wrong_text(alloc, names, &outcome, &labels)?,
-                found: Found::Shown,
-            });
+            return wrong_answer(alloc, names, &outcome, &labels);
         }
     }
     listed_answer(alloc, names, &told, false)

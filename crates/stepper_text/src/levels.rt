@@ -39,7 +39,7 @@ pub fn push_inner(
         } => push_within(text, names, slot, places, method, rest),
         Inner::Next { task, rest } => push_next(text, names, task, rest),
         Inner::Serving { method, rest } => {
-            push_braced(text, names, method)?;
+            put!(push_braced(text, names, method));
             push_segments(text, names, rest)
         }
         Inner::Value(_) => Ok(()),
@@ -54,7 +54,7 @@ fn push_later(text: &mut Vec<u8>, names: &Names, post: &[Stmt]) -> Result<(), Al
     match post.split_first() {
         None => Ok(()),
         Some(_) => {
-            push_word(text, b"post")?;
+            put!(push_word(text, b"post"));
             push_statements(text, names, post)
         }
     }
@@ -64,9 +64,9 @@ fn push_later(text: &mut Vec<u8>, names: &Names, post: &[Stmt]) -> Result<(), Al
 fn push_done_value(text: &mut Vec<u8>, value: Value) -> Result<(), AllocError>
     ensures { OnOk result (text.new.items ≡ text.old.items ++ done_text value) }
 {
-    push_mark(text)?;
-    push_word(text, b"result")?;
-    push_value(text, value)?;
+    put!(push_mark(text));
+    put!(push_word(text, b"result"));
+    put!(push_value(text, value));
     push_unmark(text)
 }
 
@@ -105,22 +105,22 @@ fn push_body(
 {
     match *inner {
         Inner::Value(operand) => {
-            push_done_value(text, operand.value)?;
+            put!(push_done_value(text, operand.value));
             push_later(text, names, last)
         }
         Inner::Over => {
-            push_done_value(text, Value::Nil)?;
+            put!(push_done_value(text, Value::Nil));
             push_later(text, names, last)
         }
         _ => {
             if is_in_value(inner) {
-                push_word(text, b"result")?;
-                push_inner(text, names, inner)?;
+                put!(push_word(text, b"result"));
+                put!(push_inner(text, names, inner));
                 push_later(text, names, post)
             } else {
-                push_inner(text, names, inner)?;
-                push_word(text, b"result")?;
-                push_expression(text, names, value)?;
+                put!(push_inner(text, names, inner));
+                put!(push_word(text, b"result"));
+                put!(push_expression(text, names, value));
                 push_later(text, names, post)
             }
         }
@@ -140,9 +140,9 @@ fn push_post_stage(
         Inner::Value(_) => push_done_value(text, value),
         Inner::Over => push_done_value(text, value),
         _ => {
-            push_word(text, b"result")?;
-            push_value(text, value)?;
-            push_word(text, b"post")?;
+            put!(push_word(text, b"result"));
+            put!(push_value(text, value));
+            put!(push_word(text, b"post"));
             push_inner(text, names, inner)
         }
     }
@@ -192,20 +192,20 @@ fn push_head(
 {
     match outer {
         SuspendedCall::Expression { .. } => {
-            text.extend_from_slice(b"own")?;
-            push_object(text, object)?;
+            put!(text.extend_from_slice(b"own"));
+            put!(push_object(text, object));
             push_name(text, names, method)
         }
         SuspendedCall::Statement { caller, .. } => match (stage, caller) {
             (Stage::Body { .. }, Some(caller)) => {
-                text.extend_from_slice(b"serve")?;
-                push_object(text, object)?;
-                push_name(text, names, method)?;
+                put!(text.extend_from_slice(b"serve"));
+                put!(push_object(text, object));
+                put!(push_name(text, names, method));
                 push_object(text, *caller)
             }
             _ => {
-                text.extend_from_slice(b"take")?;
-                push_object(text, object)?;
+                put!(text.extend_from_slice(b"take"));
+                put!(push_object(text, object));
                 push_name(text, names, method)
             }
         },
@@ -222,10 +222,10 @@ pub fn push_level(
 ) -> Result<(), AllocError>
     ensures { OnOk result (text.new.items ≡ text.old.items ++ level_line names.now object call.now (seen inner.now)) }
 {
-    push_head(text, names, object, call.method, &call.stage, &call.outer)?;
-    push_bindings(text, names, call.temps.as_slice())?;
-    push_word(text, b":")?;
-    push_stage(text, names, &call.outer, &call.stage, inner)?;
+    put!(push_head(text, names, object, call.method, &call.stage, &call.outer));
+    put!(push_bindings(text, names, call.temps.as_slice()));
+    put!(push_word(text, b":"));
+    put!(push_stage(text, names, &call.outer, &call.stage, inner));
     text.extend_from_slice(b"\n")
 }
 
@@ -280,7 +280,7 @@ fn push_levels<'b, 'a>(
 {
     for i in 0..calls.len() {
         let inner = inner_of(&calls[i + 1..], next);
-        push_level(text, names, object, &calls[i], &inner)?;
+        put!(push_level(text, names, object, &calls[i], &inner));
     }
     Ok(())
 }
@@ -294,11 +294,11 @@ pub fn push_work(
 ) -> Result<(), AllocError>
     ensures { OnOk result (text.new.items ≡ text.old.items ++ work_lines names.now object work.now) }
 {
-    text.extend_from_slice(b"body")?;
-    push_object(text, object)?;
-    push_word(text, b":")?;
+    put!(text.extend_from_slice(b"body"));
+    put!(push_object(text, object));
+    put!(push_word(text, b":"));
     let inner = inner_of(work.calls.as_slice(), &work.next);
-    push_inner(text, names, &inner)?;
-    text.extend_from_slice(b"\n")?;
+    put!(push_inner(text, names, &inner));
+    put!(text.extend_from_slice(b"\n"));
     push_levels(text, names, object, work.calls.as_slice(), &work.next)
 }

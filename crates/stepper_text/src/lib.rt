@@ -3,6 +3,15 @@
 //! Does not know: other objects and configurations.
 #![tactic(auto)]
 
+/// Makes a call that appends to a text, and returns its error if memory runs out.
+macro_rules! put {
+    ($call:expr) => {
+        let Ok(()) = $call else {
+            return Err(AllocError);
+        };
+    };
+}
+
 mod inner;
 mod levels;
 mod places;

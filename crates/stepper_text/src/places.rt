@@ -46,8 +46,8 @@ pub fn push_done(text: &mut Vec<u8>, done: &[Operand]) -> Result<(), AllocError>
     ensures { OnOk result (text.new.items ≡ text.old.items ++ done_arguments done.now) }
 {
     for operand in done {
-        push_operand(text, operand)?;
-        push_word(text, b",")?;
+        put!(push_operand(text, operand));
+        put!(push_word(text, b","));
     }
     Ok(())
 }
@@ -63,18 +63,18 @@ fn push_before(
 {
     match place {
         ExpressionContext::Prefix { op, .. } => {
-            push_operator(text, *op)?;
+            put!(push_operator(text, *op));
             push_opened(text, 6, level)
         }
         ExpressionContext::Left { op, .. } => push_opened(text, left_need(*op), level),
         ExpressionContext::Right { op, left, .. } => {
-            push_operand(text, left)?;
-            push_operator(text, *op)?;
+            put!(push_operand(text, left));
+            put!(push_operator(text, *op));
             push_opened(text, right_need(*op), level)
         }
         ExpressionContext::CallArgument { method, done, .. } => {
-            push_name(text, names, *method)?;
-            push_word(text, b"(")?;
+            put!(push_name(text, names, *method));
+            put!(push_word(text, b"("));
             push_done(text, done.as_slice())
         }
         ExpressionContext::Destination { .. } => push_opened(text, 7, level),
@@ -84,10 +84,10 @@ fn push_before(
             done,
             ..
         } => {
-            push_operand(text, to)?;
-            push_word(text, b"!")?;
-            push_name(text, names, *method)?;
-            push_word(text, b"(")?;
+            put!(push_operand(text, to));
+            put!(push_word(text, b"!"));
+            put!(push_name(text, names, *method));
+            put!(push_word(text, b"("));
             push_done(text, done.as_slice())
         }
     }
@@ -105,22 +105,22 @@ fn push_after(
     match place {
         ExpressionContext::Prefix { .. } => push_closed(text, 6, level),
         ExpressionContext::Left { op, right, .. } => {
-            push_closed(text, left_need(*op), level)?;
-            push_operator(text, *op)?;
+            put!(push_closed(text, left_need(*op), level));
+            put!(push_operator(text, *op));
             push_enclosed(text, names, right_need(*op), right)
         }
         ExpressionContext::Right { op, .. } => push_closed(text, right_need(*op), level),
         ExpressionContext::CallArgument { rest, .. } => {
-            push_more_arguments(text, names, rest)?;
+            put!(push_more_arguments(text, names, rest));
             push_word(text, b")")
         }
         ExpressionContext::Destination { method, args, .. } => {
-            push_closed(text, 7, level)?;
-            push_word(text, b"!")?;
+            put!(push_closed(text, 7, level));
+            put!(push_word(text, b"!"));
             push_call(text, names, *method, args)
         }
         ExpressionContext::SendArgument { rest, .. } => {
-            push_more_arguments(text, names, rest)?;
+            put!(push_more_arguments(text, names, rest));
             push_word(text, b")")
         }
     }
@@ -160,12 +160,12 @@ pub fn push_befores(
     ensures { OnOk result (text.new.items ≡ text.old.items ++ befores names.now places.now level) }
 {
     for i in 0..places.len() {
-        push_before(
+        put!(push_before(
             text,
             names,
             &places[i],
             nested_level(&places[i + 1..], level),
-        )?;
+        ));
     }
     Ok(())
 }
@@ -180,12 +180,12 @@ pub fn push_afters(
     ensures { OnOk result (text.new.items ≡ text.old.items ++ afters names.now places.now level) }
 {
     for i in (0..places.len()).rev() {
-        push_after(
+        put!(push_after(
             text,
             names,
             &places[i],
             nested_level(&places[i + 1..], level),
-        )?;
+        ));
     }
     Ok(())
 }

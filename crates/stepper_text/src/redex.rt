@@ -22,7 +22,7 @@ fn push_operands(text: &mut Vec<u8>, operands: &[Operand]) -> Result<(), AllocEr
     match operands.split_first() {
         None => Ok(()),
         Some((first, rest)) => {
-            push_operand(text, first)?;
+            put!(push_operand(text, first));
             push_more_operands(text, rest)
         }
     }
@@ -33,8 +33,8 @@ fn push_more_operands(text: &mut Vec<u8>, operands: &[Operand]) -> Result<(), Al
     ensures { OnOk result (text.new.items ≡ text.old.items ++ more_operands operands.now) }
 {
     for operand in operands {
-        push_word(text, b",")?;
-        push_operand(text, operand)?;
+        put!(push_word(text, b","));
+        put!(push_operand(text, operand));
     }
     Ok(())
 }
@@ -48,9 +48,9 @@ fn push_called(
 ) -> Result<(), AllocError>
     ensures { OnOk result (text.new.items ≡ text.old.items ++ called names.now method.0 (operands_text operands.now)) }
 {
-    push_name(text, names, method)?;
-    push_word(text, b"(")?;
-    push_operands(text, operands)?;
+    put!(push_name(text, names, method));
+    put!(push_word(text, b"("));
+    put!(push_operands(text, operands));
     push_word(text, b")")
 }
 
@@ -62,11 +62,11 @@ pub fn push_ready(text: &mut Vec<u8>, names: &Names, redex: &Ready) -> Result<()
         Ready::Me { .. } => push_word(text, b"self"),
         Ready::Variable { name, .. } => push_name(text, names, *name),
         Ready::Create { class, .. } => {
-            push_word(text, b"new")?;
+            put!(push_word(text, b"new"));
             push_name(text, names, *class)
         }
         Ready::Prefix { op, arg, .. } => {
-            push_operator(text, *op)?;
+            put!(push_operator(text, *op));
             push_operand(text, arg)
         }
         Ready::Infix {
@@ -75,8 +75,8 @@ pub fn push_ready(text: &mut Vec<u8>, names: &Names, redex: &Ready) -> Result<()
             right,
             ..
         } => {
-            push_operand(text, left)?;
-            push_operator(text, *op)?;
+            put!(push_operand(text, left));
+            put!(push_operator(text, *op));
             push_operand(text, right)
         }
         Ready::Call { method, args, .. } => push_called(text, names, *method, args.as_slice()),
@@ -86,13 +86,13 @@ pub fn push_ready(text: &mut Vec<u8>, names: &Names, redex: &Ready) -> Result<()
             args,
             ..
         } => {
-            push_operand(text, to)?;
-            push_word(text, b"!")?;
+            put!(push_operand(text, to));
+            put!(push_word(text, b"!"));
             push_called(text, names, *method, args.as_slice())
         }
         Ready::Wait { receiver, method } => {
-            push_word(text, b"waits")?;
-            push_object(text, *receiver)?;
+            put!(push_word(text, b"waits"));
+            put!(push_object(text, *receiver));
             push_name(text, names, *method)
         }
     }
@@ -107,11 +107,11 @@ pub fn push_guards(
     ensures { OnOk result (text.new.items ≡ text.old.items ++ guards_text names.now guards.now) }
 {
     for guarded in guards {
-        push_word(text, b"when")?;
-        push_operand(text, &guarded.guard)?;
-        push_answer(text, names, &guarded.alt.answer)?;
-        push_word(text, b"then")?;
-        push_statements(text, names, guarded.alt.work.items())?;
+        put!(push_word(text, b"when"));
+        put!(push_operand(text, &guarded.guard));
+        put!(push_answer(text, names, &guarded.alt.answer));
+        put!(push_word(text, b"then"));
+        put!(push_statements(text, names, guarded.alt.work.items()));
     }
     Ok(())
 }
@@ -125,10 +125,10 @@ pub fn push_loop(
 ) -> Result<(), AllocError>
     ensures { OnOk result (text.new.items ≡ text.old.items ++ statement_text names.now (While (expression_of cond.now) (statements_of body.now))) }
 {
-    push_word(text, b"while")?;
-    push_expression(text, names, cond)?;
-    push_word(text, b"do")?;
-    push_statements(text, names, body)?;
+    put!(push_word(text, b"while"));
+    put!(push_expression(text, names, cond));
+    put!(push_word(text, b"do"));
+    put!(push_statements(text, names, body));
     push_word(text, b"od")
 }
 
@@ -145,8 +145,8 @@ pub fn push_again(
     match body.split_first() {
         None => push_loop(text, names, cond, body),
         Some(_) => {
-            push_statements(text, names, body)?;
-            push_word(text, b";")?;
+            put!(push_statements(text, names, body));
+            put!(push_word(text, b";"));
             push_loop(text, names, cond, body)
         }
     }
@@ -158,47 +158,47 @@ pub fn push_task(text: &mut Vec<u8>, names: &Names, task: &Task<'_>) -> Result<(
 {
     match task {
         Task::Assign { target, value } => {
-            push_name(text, names, target.name)?;
-            push_word(text, b":=")?;
+            put!(push_name(text, names, target.name));
+            put!(push_word(text, b":="));
             push_operand(text, value)
         }
         Task::Write { value } => {
-            push_word(text, b"write")?;
+            put!(push_word(text, b"write"));
             push_operand(text, value)
         }
         Task::WriteText { text: string } => {
-            push_word(text, b"write")?;
+            put!(push_word(text, b"write"));
             push_item(text, names, Item::Text(*string))
         }
         Task::Do { value } => push_operand(text, value),
         Task::Async { to, method, args } => {
-            push_operand(text, to)?;
-            push_word(text, b"!!")?;
+            put!(push_operand(text, to));
+            put!(push_word(text, b"!!"));
             push_called(text, names, method.name, args.as_slice())
         }
         Task::If { cond, yes, no } => {
-            push_word(text, b"if")?;
-            push_operand(text, cond)?;
-            push_word(text, b"then")?;
-            push_statements(text, names, yes)?;
-            push_else(text, names, no)?;
+            put!(push_word(text, b"if"));
+            put!(push_operand(text, cond));
+            put!(push_word(text, b"then"));
+            put!(push_statements(text, names, yes));
+            put!(push_else(text, names, no));
             push_word(text, b"fi")
         }
         Task::Loop { value, cond, body } => {
-            push_word(text, b"if")?;
-            push_operand(text, value)?;
-            push_word(text, b"then")?;
-            push_again(text, names, cond, body)?;
+            put!(push_word(text, b"if"));
+            put!(push_operand(text, value));
+            put!(push_word(text, b"then"));
+            put!(push_again(text, names, cond, body));
             push_word(text, b"fi")
         }
         Task::While { cond, body } => push_loop(text, names, cond, body),
         Task::Answer { names: listed } => {
-            push_word(text, b"answer")?;
+            put!(push_word(text, b"answer"));
             push_names(text, names, listed)
         }
         Task::Select { guards } => {
-            push_word(text, b"select")?;
-            push_guards(text, names, guards.as_slice())?;
+            put!(push_word(text, b"select"));
+            put!(push_guards(text, names, guards.as_slice()));
             push_word(text, b"end")
         }
     }

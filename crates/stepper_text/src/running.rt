@@ -20,8 +20,8 @@ use term_text::{push_mark, push_more_statements, push_unmark};
 pub fn push_braced(text: &mut Vec<u8>, names: &Names, method: NameId) -> Result<(), AllocError>
     ensures { OnOk result (text.new.items ≡ text.old.items ++ braced names.now method.0) }
 {
-    push_word(text, b"{")?;
-    push_name(text, names, method)?;
+    put!(push_word(text, b"{"));
+    put!(push_name(text, names, method));
     push_word(text, b"}")
 }
 
@@ -32,7 +32,7 @@ fn push_segment(text: &mut Vec<u8>, names: &Names, part: &Segment<'_>) -> Result
     match part {
         Segment::Rest(stmts) => push_more_statements(text, names, stmts),
         Segment::Again { cond, body } => {
-            push_word(text, b";")?;
+            put!(push_word(text, b";"));
             push_loop(text, names, cond, body)
         }
     }
@@ -47,7 +47,7 @@ pub fn push_segments(
     ensures { OnOk result (text.new.items ≡ text.old.items ++ more_statements names.now (left segments.now)) }
 {
     for i in (0..segments.len()).rev() {
-        push_segment(text, names, &segments[i])?;
+        put!(push_segment(text, names, &segments[i]));
     }
     Ok(())
 }
@@ -76,7 +76,7 @@ fn push_front(
 ) -> Result<(), AllocError>
     ensures { OnOk result (text.new.items ≡ text.old.items ++ (slot_before names.now slot.now (nested_level places.now 8) ++ befores names.now places.now 8)) }
 {
-    push_slot_before(text, names, slot, nested_level(places, 8))?;
+    put!(push_slot_before(text, names, slot, nested_level(places, 8)));
     push_befores(text, names, places, 8)
 }
 
@@ -91,8 +91,8 @@ fn push_back(
     ensures { OnOk result (text.new.items ≡ text.old.items
         ++ (afters names.now places.now 8 ++ (slot_after names.now slot.now (nested_level places.now 8) ++ slot_rest names.now slot.now (left rest.now)))) }
 {
-    push_afters(text, names, places, 8)?;
-    push_slot_after(text, names, slot, nested_level(places, 8))?;
+    put!(push_afters(text, names, places, 8));
+    put!(push_slot_after(text, names, slot, nested_level(places, 8)));
     push_slot_rest(text, names, slot, rest)
 }
 
@@ -107,10 +107,10 @@ pub fn push_running(
 ) -> Result<(), AllocError>
     ensures { OnOk result (text.new.items ≡ text.old.items ++ running_text names.now slot.now places.now (boxed (ready_text names.now redex.now)) (left rest.now)) }
 {
-    push_front(text, names, slot, places)?;
-    push_mark(text)?;
-    push_ready(text, names, redex)?;
-    push_unmark(text)?;
+    put!(push_front(text, names, slot, places));
+    put!(push_mark(text));
+    put!(push_ready(text, names, redex));
+    put!(push_unmark(text));
     push_back(text, names, slot, places, rest)
 }
 
@@ -125,8 +125,8 @@ pub fn push_within(
 ) -> Result<(), AllocError>
     ensures { OnOk result (text.new.items ≡ text.old.items ++ running_text names.now slot.now places.now (braced names.now method.0) (left rest.now)) }
 {
-    push_front(text, names, slot, places)?;
-    push_braced(text, names, method)?;
+    put!(push_front(text, names, slot, places));
+    put!(push_braced(text, names, method));
     push_back(text, names, slot, places, rest)
 }
 
@@ -139,8 +139,8 @@ pub fn push_next(
 ) -> Result<(), AllocError>
     ensures { OnOk result (text.new.items ≡ text.old.items ++ (boxed (task_text names.now task.now) ++ more_statements names.now (left rest.now))) }
 {
-    push_mark(text)?;
-    push_task(text, names, task)?;
-    push_unmark(text)?;
+    put!(push_mark(text));
+    put!(push_task(text, names, task));
+    put!(push_unmark(text));
     push_segments(text, names, rest)
 }

@@ -23,7 +23,7 @@ pub fn push_slot_before(
 {
     match slot {
         StatementContext::Assign { target } => {
-            push_name(text, names, target.name)?;
+            put!(push_name(text, names, target.name));
             push_word(text, b":=")
         }
         StatementContext::Write => push_word(text, b"write"),
@@ -35,17 +35,17 @@ pub fn push_slot_before(
             done,
             ..
         } => {
-            push_operand(text, to)?;
-            push_word(text, b"!!")?;
-            push_name(text, names, method.name)?;
-            push_word(text, b"(")?;
+            put!(push_operand(text, to));
+            put!(push_word(text, b"!!"));
+            put!(push_name(text, names, method.name));
+            put!(push_word(text, b"("));
             push_done(text, done.as_slice())
         }
         StatementContext::If { .. } => push_word(text, b"if"),
         StatementContext::Loop { .. } => push_word(text, b"if"),
         StatementContext::Guard { done, .. } => {
-            push_word(text, b"select")?;
-            push_guards(text, names, done.as_slice())?;
+            put!(push_word(text, b"select"));
+            put!(push_guards(text, names, done.as_slice()));
             push_word(text, b"when")
         }
         StatementContext::Value => Ok(()),
@@ -66,30 +66,30 @@ pub fn push_slot_after(
         StatementContext::Write => Ok(()),
         StatementContext::Do => Ok(()),
         StatementContext::Destination { method, args } => {
-            push_closed(text, 7, level)?;
-            push_word(text, b"!!")?;
+            put!(push_closed(text, 7, level));
+            put!(push_word(text, b"!!"));
             push_call(text, names, method.name, args)
         }
         StatementContext::Argument { rest, .. } => {
-            push_more_arguments(text, names, rest)?;
+            put!(push_more_arguments(text, names, rest));
             push_word(text, b")")
         }
         StatementContext::If { yes, no } => {
-            push_word(text, b"then")?;
-            push_statements(text, names, yes)?;
-            push_else(text, names, no)?;
+            put!(push_word(text, b"then"));
+            put!(push_statements(text, names, yes));
+            put!(push_else(text, names, no));
             push_word(text, b"fi")
         }
         StatementContext::Loop { cond, body } => {
-            push_word(text, b"then")?;
-            push_again(text, names, cond, body)?;
+            put!(push_word(text, b"then"));
+            put!(push_again(text, names, cond, body));
             push_word(text, b"fi")
         }
         StatementContext::Guard { at, rest, .. } => {
-            push_answer(text, names, &at.answer)?;
-            push_word(text, b"then")?;
-            push_statements(text, names, at.work.items())?;
-            push_alternatives(text, names, rest)?;
+            put!(push_answer(text, names, &at.answer));
+            put!(push_word(text, b"then"));
+            put!(push_statements(text, names, at.work.items()));
+            put!(push_alternatives(text, names, rest));
             push_word(text, b"end")
         }
         StatementContext::Value => Ok(()),

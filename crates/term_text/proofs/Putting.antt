@@ -1,5 +1,5 @@
 -- Text that is put behind other text.
-use Rattle.std.proofs.Common.{◌≡◌, sym, ap, ◌∙◌, ◌+◌, ◌<◌, List, [], ◌∷◌, ◌++◌, length, drop, get_or, Result, Ok, Err, append_assoc, arith}
+use Rattle.std.proofs.Common.{◌≡◌, sym, ap, ◌∙◌, ◌<◌, List, [], ◌∷◌, ◌++◌, length, drop, get_or, Result, Ok, Err, append_assoc, arith}
 use Rattle.std.specs.Prelude.{OnOk}
 use Rattle.text_scan.specs.Text.{Text}
 use Rattle.pool_syntax.specs.declared.tree.Expr.{Expr}

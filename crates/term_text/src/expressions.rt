@@ -95,8 +95,8 @@ pub fn push_enclosed(
     if need <= level(expr) {
         push_expression(text, names, expr)
     } else {
-        push_word(text, b"(")?;
-        push_expression(text, names, expr)?;
+        put!(push_word(text, b"("));
+        put!(push_expression(text, names, expr));
         push_word(text, b")")
     }
 }
@@ -113,11 +113,11 @@ pub fn push_expression(text: &mut Vec<u8>, names: &Names, expr: &Expr) -> Result
         Expr::Me { .. } => push_word(text, b"self"),
         Expr::Var { name, .. } => push_name(text, names, *name),
         Expr::New { class, .. } => {
-            push_word(text, b"new")?;
+            put!(push_word(text, b"new"));
             push_name(text, names, *class)
         }
         Expr::Unary { op, arg, .. } => {
-            push_operator(text, *op)?;
+            put!(push_operator(text, *op));
             push_enclosed(text, names, 6, arg)
         }
         Expr::Binary {
@@ -126,8 +126,8 @@ pub fn push_expression(text: &mut Vec<u8>, names: &Names, expr: &Expr) -> Result
             right,
             ..
         } => {
-            push_enclosed(text, names, left_need(*op), left)?;
-            push_operator(text, *op)?;
+            put!(push_enclosed(text, names, left_need(*op), left));
+            put!(push_operator(text, *op));
             push_enclosed(text, names, right_need(*op), right)
         }
         Expr::Call { method, args, .. } => push_call(text, names, *method, args.items()),
@@ -137,8 +137,8 @@ pub fn push_expression(text: &mut Vec<u8>, names: &Names, expr: &Expr) -> Result
             args,
             ..
         } => {
-            push_enclosed(text, names, 7, to)?;
-            push_word(text, b"!")?;
+            put!(push_enclosed(text, names, 7, to));
+            put!(push_word(text, b"!"));
             push_call(text, names, *method, args.items())
         }
     }
@@ -154,9 +154,9 @@ pub fn push_call(
 ) -> Result<(), AllocError>
     ensures { OnOk result (text.new.items ≡ text.old.items ++ called names.now method.0 (arguments_text names.now (expressions_of args.now))) }
 {
-    push_name(text, names, method)?;
-    push_word(text, b"(")?;
-    push_arguments(text, names, args)?;
+    put!(push_name(text, names, method));
+    put!(push_word(text, b"("));
+    put!(push_arguments(text, names, args));
     push_word(text, b")")
 }
 
@@ -168,10 +168,10 @@ pub fn push_arguments(text: &mut Vec<u8>, names: &Names, args: &[Expr]) -> Resul
     if args.is_empty() {
         return Ok(());
     }
-    push_expression(text, names, &args[0])?;
+    put!(push_expression(text, names, &args[0]));
     for i in 1..args.len() {
-        push_word(text, b",")?;
-        push_expression(text, names, &args[i])?;
+        put!(push_word(text, b","));
+        put!(push_expression(text, names, &args[i]));
     }
     Ok(())
 }
@@ -185,8 +185,8 @@ pub fn push_more_arguments(
     ensures { OnOk result (text.new.items ≡ text.old.items ++ more_arguments names.now (expressions_of args.now)) }
 {
     for arg in args {
-        push_word(text, b",")?;
-        push_expression(text, names, arg)?;
+        put!(push_word(text, b","));
+        put!(push_expression(text, names, arg));
     }
     Ok(())
 }

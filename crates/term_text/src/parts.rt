@@ -15,8 +15,8 @@ fn push_more_names(text: &mut Vec<u8>, names: &Names, list: &[Named]) -> Result<
     ensures { OnOk result (text.new.items ≡ text.old.items ++ more_names names.now list.now) }
 {
     for named in list {
-        push_word(text, b",")?;
-        push_name(text, names, named.name)?;
+        put!(push_word(text, b","));
+        put!(push_name(text, names, named.name));
     }
     Ok(())
 }
@@ -28,7 +28,7 @@ fn push_some_names(text: &mut Vec<u8>, names: &Names, list: &[Named]) -> Result<
     match list.split_first() {
         None => Ok(()),
         Some((first, rest)) => {
-            push_name(text, names, first.name)?;
+            put!(push_name(text, names, first.name));
             push_more_names(text, names, rest)
         }
     }
@@ -38,8 +38,8 @@ fn push_some_names(text: &mut Vec<u8>, names: &Names, list: &[Named]) -> Result<
 pub fn push_names(text: &mut Vec<u8>, names: &Names, list: &[Named]) -> Result<(), AllocError>
     ensures { OnOk result (text.new.items ≡ text.old.items ++ names_text names.now list.now) }
 {
-    push_word(text, b"(")?;
-    push_some_names(text, names, list)?;
+    put!(push_word(text, b"("));
+    put!(push_some_names(text, names, list));
     push_word(text, b")")
 }
 
@@ -77,8 +77,8 @@ fn push_bare_value(text: &mut Vec<u8>, value: Value) -> Result<(), AllocError>
 fn push_binding(text: &mut Vec<u8>, names: &Names, binding: &(u32, Value)) -> Result<(), AllocError>
     ensures { OnOk result (text.new.items ≡ text.old.items ++ binding_text names.now binding.now) }
 {
-    push_name(text, names, NameId(binding.0))?;
-    text.extend_from_slice(b"=")?;
+    put!(push_name(text, names, NameId(binding.0)));
+    put!(text.extend_from_slice(b"="));
     push_bare_value(text, binding.1)
 }
 
@@ -91,7 +91,7 @@ pub fn push_bindings(
     ensures { OnOk result (text.new.items ≡ text.old.items ++ bindings names.now list.now) }
 {
     for binding in list {
-        push_binding(text, names, binding)?;
+        put!(push_binding(text, names, binding));
     }
     Ok(())
 }

@@ -22,7 +22,7 @@ pub fn push_answer(
     match answer {
         None => Ok(()),
         Some(list) => {
-            push_word(text, b"answer")?;
+            put!(push_word(text, b"answer"));
             push_names(text, names, list.items())
         }
     }
@@ -35,41 +35,41 @@ pub fn push_statement(text: &mut Vec<u8>, names: &Names, stmt: &Stmt) -> Result<
 {
     match stmt {
         Stmt::Assign { target, value } => {
-            push_name(text, names, target.name)?;
-            push_word(text, b":=")?;
+            put!(push_name(text, names, target.name));
+            put!(push_word(text, b":="));
             push_expression(text, names, value)
         }
         Stmt::Write { value } => {
-            push_word(text, b"write")?;
+            put!(push_word(text, b"write"));
             push_expression(text, names, value)
         }
         Stmt::WriteText { text: string } => {
-            push_word(text, b"write")?;
+            put!(push_word(text, b"write"));
             push_item(text, names, Item::Text(*string))
         }
         Stmt::Do { value } => push_expression(text, names, value),
         Stmt::Async { to, method, args } => {
-            push_enclosed(text, names, 7, to)?;
-            push_word(text, b"!!")?;
+            put!(push_enclosed(text, names, 7, to));
+            put!(push_word(text, b"!!"));
             push_call(text, names, method.name, args.items())
         }
         Stmt::If { cond, yes, no } => {
-            push_word(text, b"if")?;
-            push_expression(text, names, cond)?;
-            push_word(text, b"then")?;
-            push_statements(text, names, yes.items())?;
-            push_else(text, names, no.items())?;
+            put!(push_word(text, b"if"));
+            put!(push_expression(text, names, cond));
+            put!(push_word(text, b"then"));
+            put!(push_statements(text, names, yes.items()));
+            put!(push_else(text, names, no.items()));
             push_word(text, b"fi")
         }
         Stmt::While { cond, body } => {
-            push_word(text, b"while")?;
-            push_expression(text, names, cond)?;
-            push_word(text, b"do")?;
-            push_statements(text, names, body.items())?;
+            put!(push_word(text, b"while"));
+            put!(push_expression(text, names, cond));
+            put!(push_word(text, b"do"));
+            put!(push_statements(text, names, body.items()));
             push_word(text, b"od")
         }
         Stmt::Answer { names: listed } => {
-            push_word(text, b"answer")?;
+            put!(push_word(text, b"answer"));
             push_names(text, names, listed.items())
         }
         Stmt::Select { alts } => push_select(text, names, alts.items()),
@@ -81,8 +81,8 @@ pub fn push_statement(text: &mut Vec<u8>, names: &Names, stmt: &Stmt) -> Result<
 pub fn push_select(text: &mut Vec<u8>, names: &Names, alts: &[Alt]) -> Result<(), AllocError>
     ensures { OnOk result (text.new.items ≡ text.old.items ++ statement_text names.now (Select (alternatives_of alts.now))) }
 {
-    push_word(text, b"select")?;
-    push_alternatives(text, names, alts)?;
+    put!(push_word(text, b"select"));
+    put!(push_alternatives(text, names, alts));
     push_word(text, b"end")
 }
 
@@ -94,7 +94,7 @@ pub fn push_else(text: &mut Vec<u8>, names: &Names, stmts: &[Stmt]) -> Result<()
     match stmts.split_first() {
         None => Ok(()),
         Some(_) => {
-            push_word(text, b"else")?;
+            put!(push_word(text, b"else"));
             push_statements(text, names, stmts)
         }
     }
@@ -108,10 +108,10 @@ pub fn push_statements(text: &mut Vec<u8>, names: &Names, stmts: &[Stmt]) -> Res
     if stmts.is_empty() {
         return Ok(());
     }
-    push_statement(text, names, &stmts[0])?;
+    put!(push_statement(text, names, &stmts[0]));
     for i in 1..stmts.len() {
-        push_word(text, b";")?;
-        push_statement(text, names, &stmts[i])?;
+        put!(push_word(text, b";"));
+        put!(push_statement(text, names, &stmts[i]));
     }
     Ok(())
 }
@@ -125,8 +125,8 @@ pub fn push_more_statements(
     ensures { OnOk result (text.new.items ≡ text.old.items ++ more_statements names.now (statements_of stmts.now)) }
 {
     for stmt in stmts {
-        push_word(text, b";")?;
-        push_statement(text, names, stmt)?;
+        put!(push_word(text, b";"));
+        put!(push_statement(text, names, stmt));
     }
     Ok(())
 }
@@ -137,11 +137,11 @@ pub fn push_alternatives(text: &mut Vec<u8>, names: &Names, alts: &[Alt]) -> Res
     ensures { OnOk result (text.new.items ≡ text.old.items ++ alternatives_text names.now (alternatives_of alts.now)) }
 {
     for alt in alts {
-        push_word(text, b"when")?;
-        push_expression(text, names, &alt.guard)?;
-        push_answer(text, names, &alt.answer)?;
-        push_word(text, b"then")?;
-        push_statements(text, names, alt.work.items())?;
+        put!(push_word(text, b"when"));
+        put!(push_expression(text, names, &alt.guard));
+        put!(push_answer(text, names, &alt.answer));
+        put!(push_word(text, b"then"));
+        put!(push_statements(text, names, alt.work.items()));
     }
     Ok(())
 }

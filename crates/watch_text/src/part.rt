@@ -123,8 +123,13 @@ pub fn watch_lines(
     requires rising { first ≤ last }
     ensures { IfOk result (λ w. IsWatchedPart (program_of program.now.program.now) names.now lines.now first last w.text.items w.verdict) }
 {
-    let mut plain = Plain::make(alloc, program, root(lines))?;
+    let Ok(mut plain) = Plain::make(alloc, program, root(lines)) else {
+        return Err(AllocError);
+    };
     let mut text = Vec::new(alloc);
-    let verdict = push_judged_part(alloc, &mut text, names, &mut plain, lines, first, last)?;
+    let Ok(verdict) = push_judged_part(alloc, &mut text, names, &mut plain, lines, first, last)
+    else {
+        return Err(AllocError);
+    };
     Ok(Watched { text, verdict })
 }

@@ -133,11 +133,17 @@ fn report_end(
     ensures judged { IfOk result (λ w. LeadsTo (program_tree plain.now) lines.now (configuration_of plain.now) → Judged (program_tree plain.now) lines.now w.verdict) }
     ensures report { IfOk result (λ w. IsReport (program_tree plain.now) names.now (Some (configuration_of plain.now)) w.text.items w.verdict) }
 {
-    let rows = object_rows(alloc, plain)?;
+    let Ok(rows) = object_rows(alloc, plain) else {
+        return Err(AllocError);
+    };
     let mut text = Vec::new(alloc);
-    push_report(alloc, &mut text, names, &rows)?;
+    let Ok(()) = push_report(alloc, &mut text, names, &rows) else {
+        return Err(AllocError);
+    };
     let verdict = judge_end(plain, lines);
-    push_verdict(alloc, &mut text, names, &verdict)?;
+    let Ok(()) = push_verdict(alloc, &mut text, names, &verdict) else {
+        return Err(AllocError);
+    };
     Ok(Watched { text, verdict })
 }
 
@@ -182,6 +188,8 @@ pub fn report_waits(
 ) -> Result<Watched, AllocError>
     ensures { IfOk result (λ w. IsWaits (program_of program.now.program.now) names.now lines.now w.text.items w.verdict) }
 {
-    let mut plain = Plain::make(alloc, program, root(lines))?;
+    let Ok(mut plain) = Plain::make(alloc, program, root(lines)) else {
+        return Err(AllocError);
+    };
     report_from(alloc, names, &mut plain, lines)
 }

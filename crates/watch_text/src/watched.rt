@@ -146,9 +146,15 @@ pub fn watch_record(
 ) -> Result<Watched, AllocError>
     ensures { IfOk result (λ w. IsWatched (program_of program.now.program.now) names.now lines.now w.text.items w.verdict) }
 {
-    let mut plain = Plain::make(alloc, program, root(lines))?;
+    let Ok(mut plain) = Plain::make(alloc, program, root(lines)) else {
+        return Err(AllocError);
+    };
     let mut text = Vec::new(alloc);
-    push_start(&mut text, names, &plain)?;
-    let verdict = push_judged(alloc, &mut text, names, &mut plain, lines)?;
+    let Ok(()) = push_start(&mut text, names, &plain) else {
+        return Err(AllocError);
+    };
+    let Ok(verdict) = push_judged(alloc, &mut text, names, &mut plain, lines) else {
+        return Err(AllocError);
+    };
     Ok(Watched { text, verdict })
 }

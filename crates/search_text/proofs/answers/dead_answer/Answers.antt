@@ -1,4 +1,5 @@
-use Rattle.std.proofs.Common.{◌∙◌, List, ap, sym, subst, refl, false}
+use Rattle.std.proofs.Common.{◌∙◌, List, ap, sym, subst, false}
+use Rattle.std.proofs.lemmas.Result.{IfOk-weaker}
 use Rattle.pool_syntax.specs.Terms.{ProgramTree}
 use Rattle.pool_syntax.specs.TreeOf.{program_of}
 use Rattle.pool_semantics.specs.PlainOf.{configuration_of}
@@ -15,18 +16,22 @@ use Rattle.search_text.proofs.answers.dead_answer.Goals as goal
 pub replay-requires : goal.replay-requires
 replay-requires c = let h = c.requires.0 in record { first = h.first; last = h.last; starts = h.starts; leads = h.leads; holds = tt }
 
-pub stuck_text-requires : goal.stuck_text-requires
-stuck_text-requires c =
-    let chosen = c.deref-2.ensures.value ∙ c.in_ok-rows.ensures ∙ ap (rows_of c.args.dead.now) c.deref.ensures.value in
-    subst (λ (rows : List ObjectRow). Rising (names_of rows)) (sym chosen) (rising_chosen c.args.dead.now c.in_ok-waiting.waiting.items c.in_ok-waiting.ensures.rising)
+pub waiting_answer-requires : goal.waiting_answer-requires
+waiting_answer-requires c =
+    let waiting = c.in-Ok-waiting_rows in
+    let chosen = c.deref-2.ensures.value ∙ c.in-Ok-rows_of.ensures ∙ ap (rows_of c.args.dead.now) c.deref.ensures.value in
+    subst (λ (rows : List ObjectRow). Rising (names_of rows)) (sym chosen) (rising_chosen c.args.dead.now waiting.waiting.items waiting.ensures.rising)
 
 pub returns : goal.returns
 returns c =
     let p = program_of c.args.program.now.program.now in
-    let led = c.in_ok-plain.ensures.last in
+    let led = c.in-Ok.ensures.last in
     let last = one_last p c.args.labels.now _ _ c.requires.0 led ∙ led.holds in
-    A.dead c.args.labels.now c.args.dead.now c.requires
-    (c.in_ok-text.ensures ∙ ap (stuck_text c.args.names.now c.args.labels.now)
-    (c.deref-2.ensures.value ∙ c.in_ok-rows.ensures
+    IfOk-weaker c.waiting_answer.result _ _
+    (λ a says. A.dead c.args.labels.now c.args.dead.now c.requires
+    (says.0 ∙ ap (stuck_text c.args.names.now c.args.labels.now)
+    (c.deref-2.ensures.value ∙ c.in-Ok-rows_of.ensures
     ∙ ap (rows_of c.args.dead.now)
-    (c.deref.ensures.value ∙ c.in_ok-waiting.ensures.rows ∙ ap (λ (t : ProgramTree). waiting_rows false t (configuration_of c.in_ok-plain.plain)) c.in_ok-plain.ensures.program ∙ ap (waiting_rows false p) (sym last)))) refl
+    (c.deref.ensures.value ∙ c.in-Ok-waiting_rows.ensures.rows ∙ ap (λ (t : ProgramTree). waiting_rows false t (configuration_of c.in-Ok.plain)) c.in-Ok.ensures.program ∙ ap (waiting_rows false p) (sym last))))
+    says.1)
+    c.waiting_answer.ensures

@@ -1,4 +1,4 @@
-use Rattle.std.proofs.Common.{◌≡◌, ◌∙◌, map, string_bytes, refl, subst, sym, true}
+use Rattle.std.proofs.Common.{◌≡◌, ◌∙◌, map, string_bytes, subst, sym, true}
 use Rattle.std.proofs.lemmas.Result.{IfOk-weaker}
 use Rattle.std.specs.Prelude.{IfNone}
 use Rattle.run_types.specs.Tables.{Each}
@@ -23,9 +23,9 @@ returns-in_default g c =
 pub returns-then-not-branch : goal.returns-then-not-branch
 returns-then-not-branch g c =
     let o = c.in-Shown.outcome in
-    A.fails o c.in-Shown.labels (c.in_ok-outcome.ensures.shown o c.in-Shown.labels c.in-Shown.is)
-    (sym c.in_ok-is_allowed.ensures ∙ c.if-not-branch.true)
-    c.in_ok-wrong_text.ensures refl
+    IfOk-weaker c.wrong_answer.result _ _
+    (λ a says. A.fails o c.in-Shown.labels (c.in_ok-outcome.ensures.shown o c.in-Shown.labels c.in-Shown.is) (sym c.in_ok-is_allowed.ensures ∙ c.if-not-branch.true) says.0 says.1)
+    c.wrong_answer.ensures
 
 pub returns : goal.returns
 returns g c =

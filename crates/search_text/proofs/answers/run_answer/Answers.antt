@@ -1,20 +1,22 @@
-use Rattle.std.proofs.Common.{◌≤◌, ℕ, length, inl, inr, refl, subst}
+use Rattle.std.proofs.Common.{◌≤◌, ℕ, length, inl, inr, subst}
+use Rattle.std.proofs.lemmas.Result.{IfOk-weaker}
 use Rattle.search_text.specs.Answers as A
 use Rattle.search_text.proofs.answers.run_answer.Goals as goal
 
-pub returns-in_ok-run_text-in-Shown : goal.returns-in_ok-run_text-in-Shown
-returns-in_ok-run_text-in-Shown g c =
-    A.run c.in-Shown.outcome c.in-Shown.labels (c.in_ok-outcome.ensures.shown c.in-Shown.outcome c.in-Shown.labels c.in-Shown.is)
-    c.in_ok-run_text-in-Shown.ensures refl
+pub returns-in-Ok-Shown : goal.returns-in-Ok-Shown
+returns-in-Ok-Shown g c =
+    let s = c.in-Ok-Shown in
+    IfOk-weaker c.shown_answer.result _ _ (λ a says. A.run s.outcome s.labels (s.ensures.shown s.outcome s.labels s.field-0-is) says.0 says.1) c.shown_answer.ensures
 
-pub returns-in_ok-finite_text-in-Finite : goal.returns-in_ok-finite_text-in-Finite
-returns-in_ok-finite_text-in-Finite g c =
-    let count = c.in-Finite.count in
-    let all = c.in_ok-outcome.ensures.finite count c.in-Finite.is in
-    A.missing all.0 count all.1 (subst (λ (n : ℕ). length all.0 ≤ n) c.saturating_sub.ensures all.2) (c.in_ok-outcome.ensures.within count (inl c.in-Finite.is))
-    c.in_ok-finite_text-in-Finite.ensures refl
+pub returns-in-Ok-Finite : goal.returns-in-Ok-Finite
+returns-in-Ok-Finite g c =
+    let f = c.in-Ok-Finite in
+    let all = f.ensures.finite f.count f.field-0-is in
+    IfOk-weaker c.finite_answer.result _ _
+    (λ a says. A.missing all.0 f.count all.1 (subst (λ (n : ℕ). length all.0 ≤ n) c.saturating_sub.ensures all.2) (f.ensures.within f.count (inl f.field-0-is)) says.0 says.1)
+    c.finite_answer.ensures
 
-pub returns-in_ok-over_text-in-Over : goal.returns-in_ok-over_text-in-Over
-returns-in_ok-over_text-in-Over g c =
-    let count = c.in-Over.count in
-    A.unknown count (c.in_ok-outcome.ensures.within count (inr c.in-Over.is)) c.in_ok-over_text-in-Over.ensures refl
+pub returns-in-Ok-Over : goal.returns-in-Ok-Over
+returns-in-Ok-Over g c =
+    let o = c.in-Ok-Over in
+    IfOk-weaker c.over_answer.result _ _ (λ a says. A.unknown o.count (o.ensures.within o.count (inr o.field-0-is)) says.0 says.1) c.over_answer.ensures

@@ -1,4 +1,5 @@
-use Rattle.std.proofs.Common.{ℕ, List, Ok, ap, refl, subst, sym}
+use Rattle.std.proofs.Common.{ℕ, List, Ok, ap, subst, sym}
+use Rattle.std.proofs.lemmas.Result.{IfOk-weaker}
 use Rattle.pool_syntax.specs.TreeOf.{program_of}
 use Rattle.pool_search.specs.SearchTargets.{IsWantedDead, LeadsInOrder}
 use Rattle.search_text.specs.Answers as A
@@ -12,15 +13,17 @@ dead_answer-requires g c =
     let led = d.ensures.dead d.labels d.dead (ap Ok d.field-0-is) in
     subst (λ (ns : List ℕ). LeadsInOrder p d.labels (IsWantedDead p q ns)) (sym c.deref.ensures.value) led
 
-pub returns-in_ok-fault_text-in-Ok-Fault : goal.returns-in_ok-fault_text-in-Ok-Fault
-returns-in_ok-fault_text-in-Ok-Fault g c =
-    A.faulty c.in-Ok-Fault.labels (c.in-Ok-Fault.ensures.fault c.in-Ok-Fault.labels (ap Ok c.in-Ok-Fault.field-0-is))
-    c.in_ok-fault_text-in-Ok-Fault.ensures refl
+pub returns-in-Ok-Fault : goal.returns-in-Ok-Fault
+returns-in-Ok-Fault g c =
+    let f = c.in-Ok-Fault in
+    IfOk-weaker c.fault_answer.result _ _ (λ a says. A.faulty f.labels (f.ensures.fault f.labels (ap Ok f.field-0-is)) says.0 says.1) c.fault_answer.ensures
 
-pub returns-in_ok-finite_text-in-Ok-Finite : goal.returns-in_ok-finite_text-in-Ok-Finite
-returns-in_ok-finite_text-in-Ok-Finite g c =
-    A.finite c.in-Ok-Finite.kept (c.in-Ok-Finite.ensures.finite c.in-Ok-Finite.kept (ap Ok c.in-Ok-Finite.field-0-is)) c.in_ok-finite_text-in-Ok-Finite.ensures refl
+pub returns-in-Ok-Finite : goal.returns-in-Ok-Finite
+returns-in-Ok-Finite g c =
+    let f = c.in-Ok-Finite in
+    IfOk-weaker c.finite_answer.result _ _ (λ a says. A.finite f.kept (f.ensures.finite f.kept (ap Ok f.field-0-is)) says.0 says.1) c.finite_answer.ensures
 
-pub returns-in_ok-over_text-in-Ok-Over : goal.returns-in_ok-over_text-in-Ok-Over
-returns-in_ok-over_text-in-Ok-Over g c =
-    A.over c.in-Ok-Over.kept (c.in-Ok-Over.ensures.over c.in-Ok-Over.kept (ap Ok c.in-Ok-Over.field-0-is)) c.in_ok-over_text-in-Ok-Over.ensures refl
+pub returns-in-Ok-Over : goal.returns-in-Ok-Over
+returns-in-Ok-Over g c =
+    let o = c.in-Ok-Over in
+    IfOk-weaker c.over_answer.result _ _ (λ a says. A.over o.kept (o.ensures.over o.kept (ap Ok o.field-0-is)) says.0 says.1) c.over_answer.ensures

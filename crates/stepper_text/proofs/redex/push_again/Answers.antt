@@ -6,8 +6,8 @@ use Rattle.term_text.proofs.Laws.{on_ok, then}
 use Rattle.stepper_text.proofs.Again.{body_long}
 use Rattle.stepper_text.proofs.redex.push_again.Goals as goal
 
-pub returns-in_ok-push_word-in-Some : goal.returns-in_ok-push_word-in-Some
-returns-in_ok-push_word-in-Some c =
+pub returns-in-Ok-push_word : goal.returns-in-Ok-push_word
+returns-in-Ok-push_word c =
     let names = c.args.names.now in
     let base = c.args.text.now.items in
     let e = expression_of c.args.cond.now in
@@ -19,7 +19,7 @@ returns-in_ok-push_word-in-Some c =
     let two = c.push_word.new.text.items in
     on_ok c.push_loop-in-Some.result
     (λ q.
-    then base body (word (codes ";") ++ loop) one _ c.in_ok-push_statements-in-Some.ensures
-    (then one (word (codes ";")) loop two _ c.in_ok-push_word-in-Some.ensures q)
+    then base body (word (codes ";") ++ loop) one _ c.in-Ok.ensures
+    (then one (word (codes ";")) loop two _ c.in-Ok-push_word.ensures q)
     ∙ ap (λ t. base ++ t) (sym (body_long names e ss more)))
     c.push_loop-in-Some.ensures

@@ -16,8 +16,8 @@ push_expression-returns-in-Call t c =
     ∙ ap (λ x. base ++ bare_text names x) (sym (ap expression_of a.is ∙ call_tree a.method a.args a.pos)))
     c.push_call.ensures
 
-pub push_expression-returns-in_ok-push_word-in-Send : goal.push_expression-returns-in_ok-push_word-in-Send
-push_expression-returns-in_ok-push_word-in-Send t c =
+pub push_expression-returns-in-Ok-push_word : goal.push_expression-returns-in-Ok-push_word
+push_expression-returns-in-Ok-push_word t c =
     let a = c.in-Send in
     let names = c.args.names.now in
     let base = c.args.text.now.items in
@@ -28,8 +28,8 @@ push_expression-returns-in_ok-push_word-in-Send t c =
     let two = c.push_word-in-Send.new.text.items in
     on_ok c.push_call-in-Send.result
     (λ e.
-    then base to (sign ++ call) one _ (c.in_ok-push_enclosed-in-Send.ensures ∙ ap (λ x. base ++ text_in names 7 (expression_of x)) c.deref-in-Send.ensures)
-    (then one sign call two _ c.in_ok-push_word-in-Send.ensures
+    then base to (sign ++ call) one _ (c.in-Ok-push_enclosed-2.ensures ∙ ap (λ x. base ++ text_in names 7 (expression_of x)) c.deref-in-Send.ensures)
+    (then one sign call two _ c.in-Ok-push_word.ensures
     (e ∙ ap (λ es. two ++ called names a.method.0 (arguments_text names (expressions_of es))) c.items-in-Send.ensures))
     ∙ ap (λ x. base ++ bare_text names x) (sym (ap expression_of a.is ∙ send_tree a.to a.method a.args a.pos)))
     c.push_call-in-Send.ensures

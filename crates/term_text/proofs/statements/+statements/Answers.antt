@@ -6,8 +6,8 @@ use Rattle.term_text.specs.Words.{bare_text, else_text, statement_text, statemen
 use Rattle.term_text.proofs.Putting.{on_ok, then}
 use Rattle.term_text.proofs.statements.+statements.Goals as goal
 
-pub push_statement-returns-in_ok-push_else-in-If : goal.push_statement-returns-in_ok-push_else-in-If
-push_statement-returns-in_ok-push_else-in-If t c =
+pub push_statement-returns-in-Ok-push_else : goal.push_statement-returns-in-Ok-push_else
+push_statement-returns-in-Ok-push_else t c =
     let a = c.in-If in
     let names = c.args.names.now in
     let base = c.args.text.now.items in
@@ -22,16 +22,16 @@ push_statement-returns-in_ok-push_else-in-If t c =
     let five = c.push_else.new.text.items in
     on_ok c.push_word-in-If-3.result
     (λ e.
-    then base (word (codes "if")) (cond ++ (word (codes "then") ++ (these ++ (those ++ fi)))) one _ c.in_ok-push_word-in-If.ensures
-    (then one cond (word (codes "then") ++ (these ++ (those ++ fi))) two _ c.in_ok-push_expression-in-If.ensures
-    (then two (word (codes "then")) (these ++ (those ++ fi)) three _ c.in_ok-push_word-in-If-2.ensures
-    (then three these (those ++ fi) four _ (c.in_ok-push_statements-in-If.ensures ∙ ap (λ ss. three ++ statements_text names (statements_of ss)) c.items-in-If.ensures)
-    (then four those fi five _ (c.in_ok-push_else-in-If.ensures ∙ ap (λ ss. four ++ else_text (statements_of ss) (statements_text names (statements_of ss))) c.items-in-If-2.ensures) e))))
+    then base (word (codes "if")) (cond ++ (word (codes "then") ++ (these ++ (those ++ fi)))) one _ c.in-Ok-push_word-5.ensures
+    (then one cond (word (codes "then") ++ (these ++ (those ++ fi))) two _ c.in-Ok-push_expression.ensures
+    (then two (word (codes "then")) (these ++ (those ++ fi)) three _ c.in-Ok-push_word-6.ensures
+    (then three these (those ++ fi) four _ (c.in-Ok-push_statements.ensures ∙ ap (λ ss. three ++ statements_text names (statements_of ss)) c.items-in-If.ensures)
+    (then four those fi five _ (c.in-Ok-push_else.ensures ∙ ap (λ ss. four ++ else_text (statements_of ss) (statements_text names (statements_of ss))) c.items-in-If-2.ensures) e))))
     ∙ ap (λ x. base ++ statement_text names x) (sym (ap statement_of a.is ∙ if_tree a.cond a.yes a.no)))
     c.push_word-in-If-3.ensures
 
-pub push_statement-returns-in_ok-push_statements-in-While : goal.push_statement-returns-in_ok-push_statements-in-While
-push_statement-returns-in_ok-push_statements-in-While t c =
+pub push_statement-returns-in-Ok-push_statements-2 : goal.push_statement-returns-in-Ok-push_statements-2
+push_statement-returns-in-Ok-push_statements-2 t c =
     let a = c.in-While in
     let names = c.args.names.now in
     let base = c.args.text.now.items in
@@ -44,10 +44,10 @@ push_statement-returns-in_ok-push_statements-in-While t c =
     let four = c.push_statements-in-While.new.text.items in
     on_ok c.push_word-in-While-3.result
     (λ e.
-    then base (word (codes "while")) (cond ++ (word (codes "do") ++ (body ++ od))) one _ c.in_ok-push_word-in-While.ensures
-    (then one cond (word (codes "do") ++ (body ++ od)) two _ c.in_ok-push_expression-in-While.ensures
-    (then two (word (codes "do")) (body ++ od) three _ c.in_ok-push_word-in-While-2.ensures
-    (then three body od four _ (c.in_ok-push_statements-in-While.ensures ∙ ap (λ ss. three ++ statements_text names (statements_of ss)) c.items-in-While.ensures) e)))
+    then base (word (codes "while")) (cond ++ (word (codes "do") ++ (body ++ od))) one _ c.in-Ok-push_word-7.ensures
+    (then one cond (word (codes "do") ++ (body ++ od)) two _ c.in-Ok-push_expression-2.ensures
+    (then two (word (codes "do")) (body ++ od) three _ c.in-Ok-push_word-8.ensures
+    (then three body od four _ (c.in-Ok-push_statements-2.ensures ∙ ap (λ ss. three ++ statements_text names (statements_of ss)) c.items-in-While.ensures) e)))
     ∙ ap (λ x. base ++ statement_text names x) (sym (ap statement_of a.is ∙ while_tree a.cond a.body)))
     c.push_word-in-While-3.ensures
 

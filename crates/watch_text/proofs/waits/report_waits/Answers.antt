@@ -10,10 +10,10 @@ use Rattle.watch_text.proofs.waits.report_waits.Goals as goal
 
 pub report_from-requires-clause-starts : goal.report_from-requires-clause-starts
 report_from-requires-clause-starts c =
-    let from = configuration_of c.in_ok-plain.plain in
-    subst (λ (q : ProgramTree). start q (root c.args.lines.now) ≡ Some from) (sym c.in_ok-plain.ensures.program)
-    (ap (start (program_of c.args.program.now.program.now)) (sym c.root.ensures) ∙ c.in_ok-plain.ensures.start)
+    let from = configuration_of c.in-Ok.plain in
+    subst (λ (q : ProgramTree). start q (root c.args.lines.now) ≡ Some from) (sym c.in-Ok.ensures.program)
+    (ap (start (program_of c.args.program.now.program.now)) (sym c.root.ensures) ∙ c.in-Ok.ensures.start)
 
 pub returns : goal.returns
 returns c =
-    subst (λ (q : ProgramTree). IfOk c.report_from.result (λ w. IsWaits q c.args.names.now c.args.lines.now w.text.items w.verdict)) c.in_ok-plain.ensures.program c.report_from.ensures
+    subst (λ (q : ProgramTree). IfOk c.report_from.result (λ w. IsWaits q c.args.names.now c.args.lines.now w.text.items w.verdict)) c.in-Ok.ensures.program c.report_from.ensures
