@@ -1,6 +1,7 @@
 pub mod ListGrowth
 pub mod SearchComplete
 pub mod RunExtension
+pub mod StepperRuns
 pub mod EntryExpansion
 pub mod FoundLists
 pub mod OutcomesComplete

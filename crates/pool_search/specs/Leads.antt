@@ -15,6 +15,10 @@ use Rattle.search_laws.specs.Tried.{states_only}
 use Rattle.search_laws.specs.Dead.{some_changes}
 use Rattle.object_moves.specs.Followed.{AreChanged}
 use Rattle.visited_set.specs.Courses.{all_followed}
+use Rattle.pool_search.specs.declared.choices.Trial.{Trial}
+use Rattle.pool_search.specs.declared.choices.Trial.TheVariants as T
+use Rattle.pool_search.specs.declared.going_on.Lead.{Lead}
+use Rattle.pool_search.specs.declared.going_on.Lead.TheVariants as L
 use Rattle.pool_search.specs.Progress.{Entries}
 use Rattle.pool_search.specs.Trials.{is_asked}
 use Rattle.visited_set.specs.VisitedConfigurations.{entry}
@@ -30,6 +34,12 @@ pub record IsEdge (p : ProgramTree) (es : Entries) (n : ℕ) (c : Configuration)
   pub leads : run p c made ≡ Some last
   pub items : List Item
   pub there : slice_get es to ≡ Some (entry (after n l) items last)
+
+-- what is known of a label of the entry e that was followed: it is impossible, or it leads to an entry, or nothing
+abbrev pub IsLead : ProgramTree → Entries → Passed → Label → List Label → Lead → Type 0
+IsLead p es e l made L.Nowhere = transition p e.configuration l ≡ None
+IsLead p es e l made (L.To to) = IsEdge p es e.next e.configuration l made to
+IsLead p es e l made L.Unknown = Unit {0}
 
 -- from c, with the next name n, the label l leads to the entry `to`, and these objects are changed on the way
 pub record HasMovedTo (p : ProgramTree) (es : Entries) (n : ℕ) (c : Configuration) (l : Label) (moved : List ℕ) (to : ℕ) : Type 0 where
@@ -49,6 +59,12 @@ module _ (p : ProgramTree) (es : Entries) (ws : List Waiter) (o : ℕ) where
   -- the label is impossible or does so
   abbrev pub IsBeside : ℕ → Configuration → Label → Type 0
   IsBeside n c l = (transition p c l ≡ None) ⊎ LeadsBeside n c l
+
+  -- what is known of a label of the entry e after a trial: it is impossible, or leads so to this place, or nothing
+  abbrev pub IsTriedBeside : Passed → Label → Trial → Type 0
+  IsTriedBeside e l T.Tried = transition p e.configuration l ≡ None
+  IsTriedBeside e l (T.Led i) = (h : LeadsBeside e.next e.configuration l) × (h.to ≡ i)
+  IsTriedBeside e l T.Over = Unit {0}
 
   -- a label that is asked for leads so from the entry at the place `at` to the later entry at this place
   pub record OneStaysOn (at n : ℕ) (c : Configuration) (served : Option ℕ) (place : ℕ) : Type 0 where

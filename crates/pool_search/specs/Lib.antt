@@ -9,3 +9,4 @@ pub mod Trials
 pub mod FoundOutcomes
 pub mod KnownWaiters
 pub mod Leads
+pub mod Steps

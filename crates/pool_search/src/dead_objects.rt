@@ -1,22 +1,23 @@
 //! The dead objects of an entry, after a search has kept its whole list.
 //!
 //! Each is checked by itself, so no proof depends on how the waiters were noted.
-ghost use Rattle.std.specs.Prelude.{◌≡◌, ◌⊎◌, ℕ, Ok, Some, IfOk, IfSome, OnOk, slice_get, true, false};
+ghost use Rattle.std.specs.Prelude.{◌≡◌, ◌⊎◌, ◌<◌, ℕ, Ok, Some, IfOk, IfSome, length, slice_get, true, false};
 ghost use Rattle.std.specs.List.{filter};
 ghost use Rattle.reachability.specs.Labels.{labels_to_try};
 ghost use Rattle.run_types.specs.Tables.{Each};
 ghost use Rattle.pool_semantics.specs.PlainOf.{configuration_of, program_tree, is_spent};
 ghost use Rattle.reachability.specs.Search.{WaitsAt};
 ghost use Rattle.search_laws.specs.Outcomes.{Passed};
-ghost use Rattle.search_laws.specs.Dead.{IsDead};
+ghost use Rattle.search_laws.specs.Dead.{IsDead, some_changes};
+ghost use Rattle.visited_set.specs.WaiterLists.{HasWaiter};
 ghost use Rattle.search_laws.specs.ClosedBeside.{IsReachedInOrder};
-ghost use Rattle.pool_search.specs.Entries.{IsEntryAt, entries, searched};
-ghost use Rattle.pool_search.specs.Leads.{IsBeside, LeadsBeside, OneStaysOn, StaysAt, StaysIn};
+ghost use Rattle.pool_search.specs.Entries.{entries, searched};
+ghost use Rattle.pool_search.specs.Leads.{IsBeside, IsTriedBeside, OneStaysOn, StaysAt, StaysIn};
 ghost use Rattle.pool_search.specs.Progress.{AllInOrder};
 ghost use Rattle.pool_search.specs.Trials.{is_asked, is_tried};
 
 use crate::changes::some_changes;
-use crate::choices::{Trial, is_asked, later, serves_some};
+use crate::choices::{Trial, is_asked, later};
 use crate::explored::Explored;
 use crate::going_on::Lead;
 use label_list::LabelList;
@@ -32,41 +33,38 @@ struct Suspect<'b> {
     object: u32,
 }
 
+/// Whether these labels leave the object as it is, and lead to an entry in which it waits and is not known to go on.
+fn is_left(suspect: &Suspect<'_>, made: &LabelList, to: u32) -> bool
+    ensures { result ≡ true → (some_changes suspect.now.object made.now ≡ false) × HasWaiter false to suspect.now.object suspect.now.waiters.now.list.items }
+{
+    !some_changes(suspect.object, made) && suspect.waiters.has(false, to, suspect.object)
+}
+
 impl<'a> Explored<'a> {
-    /// Whether a label of entry `at`, where the stepper is, is impossible, or leads to an entry in which the object waits
-    /// and is not known to go on, without a change of the object. `Over` if neither is known. Returns the stepper to the
-    /// entry. An error means out of memory.
+    /// Whether a label of entry `at` is impossible, or leads to an entry in which the object waits and is not known to go
+    /// on, without a change of the object. `Over` if neither is known. `made` becomes the labels of the way there. An error
+    /// means out of memory.
     fn is_beside(
         &mut self,
-        plain: &mut Plain<'a>,
         suspect: &Suspect<'_>,
         at: u32,
-        next: u32,
         label: &Label,
         made: &mut LabelList,
     ) -> Result<Trial, AllocError>
-        requires fresh { is_spent plain.old ≡ false }
-        requires program { program_tree plain.old ≡ searched self.old }
-        requires there { IsEntryAt (entries self.old) at next (configuration_of plain.old) }
+        requires { at < length (entries self.old) }
         ensures same { entries self.new ≡ entries self.old }
         ensures program { searched self.new ≡ searched self.old }
-        ensures again { OnOk result (configuration_of plain.new ≡ configuration_of plain.old) }
-        ensures same_program { OnOk result (program_tree plain.new ≡ program_tree plain.old) }
-        ensures fresh { OnOk result (is_spent plain.new ≡ false) }
-        ensures tried { IfOk result (λ t. is_tried t ≡ true → IsBeside (searched self.old) (entries self.old) suspect.now.waiters.now.list.items suspect.now.object next (configuration_of plain.old) label.now) }
-        ensures led { (i : ℕ) → result ≡ Ok (Trial.Led i)
-            → (h : LeadsBeside (searched self.old) (entries self.old) suspect.now.waiters.now.list.items suspect.now.object next (configuration_of plain.old) label.now) × (h.to ≡ i) }
+        ensures beside { IfOk result (λ t. (e : Passed) → slice_get (entries self.old) at ≡ Some e
+            → IsTriedBeside (searched self.old) (entries self.old) suspect.now.waiters.now.list.items suspect.now.object e label.now t) }
     {
-        match self.lead(plain, at, next, label, made) {
+        match self.lead(at, label, made) {
             Ok(Lead::Nowhere) => Ok(Trial::Tried),
             Ok(Lead::To(to)) => {
-                if some_changes(suspect.object, made) {
-                    return Ok(Trial::Over);
+                if is_left(suspect, made, to) {
+                    Ok(Trial::Led(to))
+                } else {
+                    Ok(Trial::Over)
                 }
-                if suspect.waiters.has(false, to, suspect.object) {
-                    return Ok(Trial::Led(to));
-                }
-                Ok(Trial::Over)
             }
             Ok(Lead::Unknown) => Ok(Trial::Over),
             Err(_) => Err(AllocError),
@@ -77,32 +75,25 @@ impl<'a> Explored<'a> {
     /// it too.
     fn stays_beside(
         &mut self,
-        plain: &mut Plain<'a>,
         suspect: &Suspect<'_>,
         at: u32,
-        next: u32,
         label: &Label,
         served: Option<u32>,
         trial: Trial,
         made: &mut LabelList,
     ) -> Result<Trial, AllocError>
-        requires fresh { is_spent plain.old ≡ false }
-        requires program { program_tree plain.old ≡ searched self.old }
-        requires there { IsEntryAt (entries self.old) at next (configuration_of plain.old) }
+        requires { at < length (entries self.old) }
         ensures same { entries self.new ≡ entries self.old }
         ensures program { searched self.new ≡ searched self.old }
-        ensures again { OnOk result (configuration_of plain.new ≡ configuration_of plain.old) }
-        ensures same_program { OnOk result (program_tree plain.new ≡ program_tree plain.old) }
-        ensures fresh { OnOk result (is_spent plain.new ≡ false) }
-        ensures tried { IfOk result (λ t. is_tried t ≡ true → is_asked served label.now ≡ true
-            → IsBeside (searched self.old) (entries self.old) suspect.now.waiters.now.list.items suspect.now.object next (configuration_of plain.old) label.now) }
-        ensures led { (i : ℕ) → result ≡ Ok (Trial.Led i)
-            → (trial ≡ Trial.Led i) ⊎ OneStaysOn (searched self.old) (entries self.old) suspect.now.waiters.now.list.items suspect.now.object at next (configuration_of plain.old) served i }
+        ensures tried { IfOk result (λ t. is_tried t ≡ true → is_asked served label.now ≡ true → (e : Passed) → slice_get (entries self.old) at ≡ Some e
+            → IsBeside (searched self.old) (entries self.old) suspect.now.waiters.now.list.items suspect.now.object e.next e.configuration label.now) }
+        ensures led { (i : ℕ) → result ≡ Ok (Trial.Led i) → (trial ≡ Trial.Led i) ⊎ ((e : Passed) → slice_get (entries self.old) at ≡ Some e
+            → OneStaysOn (searched self.old) (entries self.old) suspect.now.waiters.now.list.items suspect.now.object at e.next e.configuration served i) }
     {
         if !is_asked(served, label) {
             return Ok(trial);
         }
-        match self.is_beside(plain, suspect, at, next, label, made) {
+        match self.is_beside(suspect, at, label, made) {
             Ok(Trial::Tried) => Ok(trial),
             Ok(Trial::Led(to)) => Ok(later(trial, at, to)),
             Ok(Trial::Over) => Ok(Trial::Over),
@@ -114,30 +105,23 @@ impl<'a> Explored<'a> {
     /// entry.
     fn are_beside(
         &mut self,
-        plain: &mut Plain<'a>,
         suspect: &Suspect<'_>,
         at: u32,
-        next: u32,
         labels: &[Label],
         served: Option<u32>,
+        made: &mut LabelList,
     ) -> Result<Trial, AllocError>
-        requires fresh { is_spent plain.old ≡ false }
-        requires program { program_tree plain.old ≡ searched self.old }
-        requires there { IsEntryAt (entries self.old) at next (configuration_of plain.old) }
+        requires { at < length (entries self.old) }
         ensures same { entries self.new ≡ entries self.old }
         ensures program { searched self.new ≡ searched self.old }
-        ensures again { OnOk result (configuration_of plain.new ≡ configuration_of plain.old) }
-        ensures same_program { OnOk result (program_tree plain.new ≡ program_tree plain.old) }
-        ensures fresh { OnOk result (is_spent plain.new ≡ false) }
-        ensures tried { IfOk result (λ t. is_tried t ≡ true
-            → Each (IsBeside (searched self.old) (entries self.old) suspect.now.waiters.now.list.items suspect.now.object next (configuration_of plain.old)) (filter (is_asked served) labels.now)) }
-        ensures led { (i : ℕ) → result ≡ Ok (Trial.Led i)
-            → OneStaysOn (searched self.old) (entries self.old) suspect.now.waiters.now.list.items suspect.now.object at next (configuration_of plain.old) served i }
+        ensures tried { IfOk result (λ t. is_tried t ≡ true → (e : Passed) → slice_get (entries self.old) at ≡ Some e
+            → Each (IsBeside (searched self.old) (entries self.old) suspect.now.waiters.now.list.items suspect.now.object e.next e.configuration) (filter (is_asked served) labels.now)) }
+        ensures led { (i : ℕ) → result ≡ Ok (Trial.Led i) → (e : Passed) → slice_get (entries self.old) at ≡ Some e
+            → OneStaysOn (searched self.old) (entries self.old) suspect.now.waiters.now.list.items suspect.now.object at e.next e.configuration served i }
     {
-        let mut made = LabelList::make(self.kept.alloc());
         let mut trial = Trial::Tried;
         for label in labels {
-            match self.stays_beside(plain, suspect, at, next, label, served, trial, &mut made) {
+            match self.stays_beside(suspect, at, label, served, trial, made) {
                 Ok(now) => trial = now,
                 Err(_) => return Err(AllocError),
             }
@@ -148,36 +132,27 @@ impl<'a> Explored<'a> {
         Ok(trial)
     }
 
-    /// Whether the same holds of all labels that this object serves in entry `at`, where the stepper is, they are enough
-    /// and one of them leads to a later entry.
+    /// Whether the same holds of all labels that this object serves in entry `at`, they are enough and one of them leads to
+    /// a later entry. `labels` are all to try.
     fn stays_by(
         &mut self,
-        plain: &mut Plain<'a>,
         suspect: &Suspect<'_>,
         at: u32,
-        next: u32,
         labels: &[Label],
         served: u32,
+        made: &mut LabelList,
     ) -> Result<bool, AllocError>
-        requires fresh { is_spent plain.old ≡ false }
-        requires program { program_tree plain.old ≡ searched self.old }
-        requires there { IsEntryAt (entries self.old) at next (configuration_of plain.old) }
+        requires exists { at < length (entries self.old) }
         requires in_order { AllInOrder (entries self.old) }
-        requires labels { labels.now ≡ labels_to_try (searched self.old) next (configuration_of plain.old) }
+        requires labels { (e : Passed) → slice_get (entries self.old) at ≡ Some e → labels.now ≡ labels_to_try (searched self.old) e.next e.configuration }
         ensures same { entries self.new ≡ entries self.old }
         ensures program { searched self.new ≡ searched self.old }
-        ensures again { OnOk result (configuration_of plain.new ≡ configuration_of plain.old) }
-        ensures same_program { OnOk result (program_tree plain.new ≡ program_tree plain.old) }
-        ensures fresh { OnOk result (is_spent plain.new ≡ false) }
         ensures stays { result ≡ Ok true → (e : Passed) → slice_get (entries self.old) at ≡ Some e → StaysIn (searched self.old) (entries self.old) suspect.now.waiters.now.list.items suspect.now.object at e }
     {
-        if !serves_some(served, labels) {
+        if !self.are_enough(at, labels, served) {
             return Ok(false);
         }
-        if !self.kept.is_only_awaited(at as usize, served) {
-            return Ok(false);
-        }
-        match self.are_beside(plain, suspect, at, next, labels, Some(served)) {
+        match self.are_beside(suspect, at, labels, Some(served), made) {
             Ok(Trial::Led(_)) => Ok(true),
             Ok(_) => Ok(false),
             Err(_) => Err(AllocError),
@@ -187,26 +162,20 @@ impl<'a> Explored<'a> {
     /// Whether this is so for some object.
     fn stays_by_choice(
         &mut self,
-        plain: &mut Plain<'a>,
         suspect: &Suspect<'_>,
         at: u32,
-        next: u32,
         labels: &[Label],
+        made: &mut LabelList,
     ) -> Result<bool, AllocError>
-        requires fresh { is_spent plain.old ≡ false }
-        requires program { program_tree plain.old ≡ searched self.old }
-        requires there { IsEntryAt (entries self.old) at next (configuration_of plain.old) }
+        requires exists { at < length (entries self.old) }
         requires in_order { AllInOrder (entries self.old) }
-        requires labels { labels.now ≡ labels_to_try (searched self.old) next (configuration_of plain.old) }
+        requires labels { (e : Passed) → slice_get (entries self.old) at ≡ Some e → labels.now ≡ labels_to_try (searched self.old) e.next e.configuration }
         ensures same { entries self.new ≡ entries self.old }
         ensures program { searched self.new ≡ searched self.old }
-        ensures again { OnOk result (configuration_of plain.new ≡ configuration_of plain.old) }
-        ensures same_program { OnOk result (program_tree plain.new ≡ program_tree plain.old) }
-        ensures fresh { OnOk result (is_spent plain.new ≡ false) }
         ensures stays { result ≡ Ok true → (e : Passed) → slice_get (entries self.old) at ≡ Some e → StaysIn (searched self.old) (entries self.old) suspect.now.waiters.now.list.items suspect.now.object at e }
     {
-        for served in 0..next {
-            match self.stays_by(plain, suspect, at, next, labels, served) {
+        for served in 0..self.kept.next_name(at as usize) {
+            match self.stays_by(suspect, at, labels, served, made) {
                 Ok(true) => return Ok(true),
                 Ok(false) => {}
                 Err(_) => return Err(AllocError),
@@ -215,32 +184,30 @@ impl<'a> Explored<'a> {
         Ok(false)
     }
 
-    /// Whether the same holds of all labels of entry `at`, where the stepper is, or of those that some awaited object
-    /// serves.
+    /// Whether the same holds of all labels of entry `at`, or of those that some awaited object serves. `labels` are all to
+    /// try.
     fn stays_where(
         &mut self,
-        plain: &mut Plain<'a>,
         suspect: &Suspect<'_>,
         at: u32,
-        next: u32,
         labels: &[Label],
+        made: &mut LabelList,
     ) -> Result<bool, AllocError>
-        requires fresh { is_spent plain.old ≡ false }
-        requires program { program_tree plain.old ≡ searched self.old }
-        requires there { IsEntryAt (entries self.old) at next (configuration_of plain.old) }
+        requires exists { at < length (entries self.old) }
         requires in_order { AllInOrder (entries self.old) }
-        requires labels { labels.now ≡ labels_to_try (searched self.old) next (configuration_of plain.old) }
+        requires labels { (e : Passed) → slice_get (entries self.old) at ≡ Some e → labels.now ≡ labels_to_try (searched self.old) e.next e.configuration }
         ensures same { entries self.new ≡ entries self.old }
         ensures program { searched self.new ≡ searched self.old }
         ensures stays { result ≡ Ok true → (e : Passed) → slice_get (entries self.old) at ≡ Some e → StaysIn (searched self.old) (entries self.old) suspect.now.waiters.now.list.items suspect.now.object at e }
     {
-        match self.stays_by_choice(plain, suspect, at, next, labels) {
-            Ok(true) => return Ok(true),
-            Ok(false) => {}
-            Err(_) => return Err(AllocError),
+        match self.stays_by_choice(suspect, at, labels, made) {
+            Ok(true) => Ok(true),
+            Ok(false) => match self.are_beside(suspect, at, labels, None, made) {
+                Ok(trial) => Ok(!trial.is_over()),
+                Err(_) => Err(AllocError),
+            },
+            Err(_) => Err(AllocError),
         }
-        let trial = self.are_beside(plain, suspect, at, next, labels, None)?;
-        Ok(!trial.is_over())
     }
 
     /// The same of the entry with this number. `false` if there is no such entry. An error means out of memory.
@@ -253,11 +220,10 @@ impl<'a> Explored<'a> {
         if at as usize >= self.kept.len() {
             return Ok(false);
         }
-        let next = self.kept.next_name(at as usize);
-        let mut plain = self.kept.configuration(at as usize)?;
         let mut labels = Vec::new(self.kept.alloc());
-        plain.labels(next, &mut labels)?;
-        self.stays_where(&mut plain, suspect, at, next, &labels)
+        self.kept.labels(at as usize, &mut labels)?;
+        let mut made = LabelList::make(self.kept.alloc());
+        self.stays_where(suspect, at, &labels, &mut made)
     }
 
     /// The same of the entry of a waiter, if the waiter is the object and not known to go on.
@@ -335,5 +301,35 @@ impl<'a> Explored<'a> {
             }
         }
         Ok(names)
+    }
+
+    /// The dead objects of the entry with the configuration where the stepper is, this next name, and what was written before
+    /// entry `at`. None if there is no such entry, or none is known to be dead. An error means out of memory.
+    pub fn dead_where(
+        &mut self,
+        waiters: &Waiters,
+        plain: &Plain<'a>,
+        at: u32,
+        next: u32,
+    ) -> Result<Option<Vec<u32>>, AllocError>
+        requires exists { at < length (entries self.old) }
+        requires fresh { is_spent plain.now ≡ false }
+        requires program { program_tree plain.now ≡ searched self.old }
+        requires in_order { AllInOrder (entries self.old) }
+        ensures { IfOk result (λ r. IfSome r (λ names. IsReachedInOrder (program_tree plain.now) next (configuration_of plain.now)
+            → (0 < length names.items) × Each (IsDead (program_tree plain.now) (configuration_of plain.now)) names.items)) }
+    {
+        match self.find(plain, at, next) {
+            Ok(Some(place)) => {
+                let names = self.dead_at(waiters, plain, place)?;
+                if names.is_empty() {
+                    Ok(None)
+                } else {
+                    Ok(Some(names))
+                }
+            }
+            Ok(None) => Ok(None),
+            Err(_) => Err(AllocError),
+        }
     }
 }

@@ -4,12 +4,15 @@ ghost use Rattle.pool_syntax.specs.TreeOf.{program_of};
 ghost use Rattle.pool_relation.specs.Transition.{transition};
 ghost use Rattle.pool_semantics.specs.PlainOf.{configuration_of, program_tree, is_spent};
 ghost use Rattle.std.specs.List.{filter};
-ghost use Rattle.reachability.specs.Search.{after};
+ghost use Rattle.run_types.specs.declared.types.Label.{Label as OneLabel};
+ghost use Rattle.pool_relation.specs.Configuration.{Configuration};
+ghost use Rattle.reachability.specs.Search.{IsInOrder, after};
+ghost use Rattle.search_laws.specs.Stubborn.{IsAwaited, is_served};
 ghost use Rattle.reachability.specs.Labels.{labels_to_try};
 ghost use Rattle.search_laws.specs.Outcomes.{Passed};
 ghost use Rattle.search_laws.specs.Tried.{AllLeadInto, IsExpanded, IsLabelTried, LeadsAt, states_only};
 ghost use Rattle.visited_set.specs.Courses.{course_of};
-ghost use Rattle.pool_search.specs.Entries.{IsPassedOver, entries, lists, searched};
+ghost use Rattle.pool_search.specs.Entries.{IsEntryAt, IsPassedOver, entries, lists, searched};
 ghost use Rattle.pool_search.specs.Trials.{CanMove, is_asked, is_tried, OneLeadsOn, SettlesAt};
 ghost use Rattle.visited_set.specs.VisitedConfigurations.{entry};
 ghost use Rattle.pool_search.specs.Progress.{AllInOrder, AllReached, Grows, IsReachedWith, IsSearchedTo, HasSearched};
@@ -129,6 +132,20 @@ impl<'a> Explored<'a> {
         }
     }
 
+    /// The number of the entry with the configuration where the stepper is, this next name, and what was written before entry
+    /// `at`. None if it is not found. An error means out of memory.
+    pub fn find(&mut self, plain: &Plain<'a>, at: u32, next: u32) -> Result<Option<u32>, AllocError>
+        requires fresh { is_spent plain.now ≡ false }
+        requires program { program_tree plain.now ≡ searched self.old }
+        requires exists { at < length (entries self.old) }
+        ensures same { entries self.new ≡ entries self.old }
+        ensures program { searched self.new ≡ searched self.old }
+        ensures found { IfOk result (λ o. IfSome o (λ i. IsEntryAt (entries self.old) i next (configuration_of plain.now))) }
+    {
+        let written = self.kept.written(at as usize);
+        self.kept.find(plain, next, written)
+    }
+
     /// Settles a configuration and adds the result. Returns the number of its entry. None if a bound is met. An error
     /// means out of memory.
     pub fn settle_and_keep(
@@ -147,10 +164,11 @@ impl<'a> Explored<'a> {
         ensures grows { IfOk result (λ o. IfSome o (λ _. Grows (searched self.old) (course_of scope.keeps) scope.most (entries self.old) (entries self.new))) }
         ensures leads { IfOk result (λ o. IfSome o (λ i. SettlesAt (searched self.old) (course_of scope.keeps) (entries self.new) next (get_or (lists self.old) written []) (configuration_of plain.old) i)) }
     {
-        if !settle(plain, scope.keeps)? {
-            return Ok(None);
+        match settle(plain, scope.keeps) {
+            Ok(true) => self.keep(plain, next, written, origin, scope),
+            Ok(false) => Ok(None),
+            Err(_) => Err(AllocError),
         }
-        self.keep(plain, next, written, origin, scope)
     }
 
     /// The number of what was written after this label, if the search keeps it. None if no number of 32 bits is left.
@@ -365,6 +383,17 @@ impl<'a> Explored<'a> {
         Ok(trial)
     }
 
+    /// Whether the labels of entry `at` that the object serves are enough: there is one, and only objects that wait for the
+    /// object know its name. `labels` are all to try.
+    pub fn are_enough(&self, at: u32, labels: &[Label], object: u32) -> bool
+        requires { at < length (entries self.now) }
+        ensures { result ≡ true → IfSome (slice_get (entries self.now) at) (λ e. IsInOrder e.configuration
+            → (l : OneLabel) (d : Configuration) → is_served object l ≡ true → transition (searched self.now) e.configuration l ≡ Some d
+            → IsAwaited (searched self.now) e.next object e.configuration) }
+    {
+        serves_some(object, labels) && self.kept.is_only_awaited(at as usize, object)
+    }
+
     /// Tries the labels of entry `at` that the object serves, if they are enough. `labels` are all to try. `Led` if they
     /// were tried, and one of them leads to a later entry. An error means out of memory.
     fn try_object(
@@ -383,10 +412,7 @@ impl<'a> Explored<'a> {
         ensures expanded { (i : ℕ) → result ≡ Ok (Trial.Led i) → (e : Passed) → slice_get (entries self.old) at ≡ Some e
             → IsExpanded (searched self.old) (course_of scope.keeps) (entries self.new) at e.next e.items e.configuration × CanMove (searched self.old) e.configuration }
     {
-        if !serves_some(object, labels) {
-            return Ok(Trial::Tried);
-        }
-        if !self.kept.is_only_awaited(at as usize, object) {
+        if !self.are_enough(at, labels, object) {
             return Ok(Trial::Tried);
         }
         self.try_labels(at, labels, Some(object), scope)

@@ -1,18 +1,17 @@
 //! Follows the labels of the entries of a whole list, to note which waiters can go on.
-ghost use Rattle.std.specs.Prelude.{◌≡◌, ◌<◌, ◌∷◌, ℕ, [], Ok, Some, None, IfOk, IfSome, OnOk, length, slice_get, false};
-ghost use Rattle.pool_relation.specs.Configuration.{Configuration};
+ghost use Rattle.std.specs.Prelude.{◌≡◌, ◌<◌, ℕ, Ok, Some, IfOk, IfSome, OnOk, length, slice_get, false};
 ghost use Rattle.pool_relation.specs.Transition.{transition};
 ghost use Rattle.pool_semantics.specs.PlainOf.{configuration_of, program_tree, is_spent};
-ghost use Rattle.pool_search.specs.Entries.{IsEntryAt, entries, searched};
+ghost use Rattle.pool_search.specs.Entries.{entries, searched};
 ghost use Rattle.search_laws.specs.Outcomes.{Passed};
-ghost use Rattle.pool_search.specs.Leads.{HasMovedTo, IsEdge};
+ghost use Rattle.pool_search.specs.Leads.{HasMovedTo, IsLead};
 ghost use Rattle.pool_search.specs.KnownWaiters.{AreKnown};
 
 use crate::changes::changed_by;
 use crate::explored::{Explored, name_after};
-use crate::settling::settle_shown;
+use crate::settling::{make, settle_after};
 use label_list::LabelList;
-use pool_semantics::{Plain, Refuse};
+use pool_semantics::Plain;
 use run_types::Label;
 use std::alloc::{AllocError, Global};
 use visited_set::{Entry, Found, Keeps, Waiters};
@@ -29,69 +28,51 @@ pub enum Lead {
 }
 
 impl<'a> Explored<'a> {
-    /// Settles after a label of entry `at`, and finds the entry there. `made` gets the labels that settle. None if there
-    /// is none, or a bound is met. An error means out of memory.
+    /// Settles after a label of entry `at`, and finds the entry there. `made` becomes the label and those that settle after
+    /// it. `Unknown` if there is none, or a bound is met. An error means out of memory.
     fn settle_and_find(
         &mut self,
         plain: &mut Plain<'a>,
         at: u32,
-        next: u32,
-        label: &Label,
-        made: &mut LabelList,
-    ) -> Result<Option<u32>, AllocError>
-        requires fresh { is_spent plain.old ≡ false }
-        requires program { program_tree plain.old ≡ searched self.old }
-        requires exists { at < length (entries self.old) }
-        ensures same { entries self.new ≡ entries self.old }
-        ensures program { searched self.new ≡ searched self.old }
-        ensures edge { (c : Configuration) → transition (searched self.old) c label.now ≡ Some (configuration_of plain.old) → made.old ≡ label.now ∷ []
-            → IfOk result (λ o. IfSome o (λ to. IsEdge (searched self.old) (entries self.old) next c label.now made.new to)) }
-    {
-        let Some(after) = name_after(next, label) else {
-            return Ok(None);
-        };
-        match settle_shown(plain, Keeps::States, made) {
-            Ok(true) => {}
-            Ok(false) => return Ok(None),
-            Err(_) => return Err(AllocError),
-        }
-        let written = self.kept.written(at as usize);
-        self.kept.find(plain, after, written)
-    }
-
-    /// Follows a label of entry `at`, where the stepper is, and returns the stepper there. `made` becomes the label and
-    /// those that settle after it. An error means out of memory.
-    pub fn lead(
-        &mut self,
-        plain: &mut Plain<'a>,
-        at: u32,
-        next: u32,
         label: &Label,
         made: &mut LabelList,
     ) -> Result<Lead, AllocError>
         requires fresh { is_spent plain.old ≡ false }
         requires program { program_tree plain.old ≡ searched self.old }
-        requires there { IsEntryAt (entries self.old) at next (configuration_of plain.old) }
+        requires exists { at < length (entries self.old) }
         ensures same { entries self.new ≡ entries self.old }
         ensures program { searched self.new ≡ searched self.old }
-        ensures again { OnOk result (configuration_of plain.new ≡ configuration_of plain.old) }
-        ensures same_program { OnOk result (program_tree plain.new ≡ program_tree plain.old) }
-        ensures fresh { OnOk result (is_spent plain.new ≡ false) }
-        ensures nowhere { result ≡ Ok Lead.Nowhere → transition (searched self.old) (configuration_of plain.old) label.now ≡ None }
-        ensures edge { (to : ℕ) → result ≡ Ok (Lead.To to) → IsEdge (searched self.old) (entries self.old) next (configuration_of plain.old) label.now made.new to }
+        ensures led { IfOk result (λ r. (e : Passed) → slice_get (entries self.old) at ≡ Some e → transition (searched self.old) e.configuration label.now ≡ Some (configuration_of plain.old)
+            → IsLead (searched self.old) (entries self.old) e label.now made.new r) }
     {
-        match plain.apply(label) {
-            Ok(()) => {}
-            Err(Refuse::NotPossible { .. }) => return Ok(Lead::Nowhere),
-            Err(Refuse::Memory) => return Err(AllocError),
-        }
+        let Some(after) = name_after(self.kept.next_name(at as usize), label) else {
+            return Ok(Lead::Unknown);
+        };
         made.clear();
-        made.push(label)?;
-        let to = self.settle_and_find(plain, at, next, label, made)?;
-        *plain = self.kept.configuration(at as usize)?;
-        match to {
-            Some(to) => Ok(Lead::To(to)),
-            None => Ok(Lead::Unknown),
+        match settle_after(plain, Keeps::States, label, made) {
+            Ok(true) => match self.find(plain, at, after) {
+                Ok(Some(to)) => Ok(Lead::To(to)),
+                Ok(None) => Ok(Lead::Unknown),
+                Err(_) => Err(AllocError),
+            },
+            Ok(false) => Ok(Lead::Unknown),
+            Err(_) => Err(AllocError),
+        }
+    }
+
+    /// Follows a label of entry `at` by the stepper. `made` becomes the label and those that settle after it. An error means
+    /// out of memory.
+    pub fn lead(&mut self, at: u32, label: &Label, made: &mut LabelList) -> Result<Lead, AllocError>
+        requires { at < length (entries self.old) }
+        ensures same { entries self.new ≡ entries self.old }
+        ensures program { searched self.new ≡ searched self.old }
+        ensures led { IfOk result (λ r. (e : Passed) → slice_get (entries self.old) at ≡ Some e → IsLead (searched self.old) (entries self.old) e label.now made.new r) }
+    {
+        let mut plain = self.kept.configuration(at as usize)?;
+        match make(&mut plain, label) {
+            Ok(true) => self.settle_and_find(&mut plain, at, label, made),
+            Ok(false) => Ok(Lead::Nowhere),
+            Err(_) => Err(AllocError),
         }
     }
 
@@ -159,17 +140,10 @@ impl<'a> Explored<'a> {
         ensures led { (to : ℕ) → result ≡ Ok (Lead.To to) → (e : Passed) → slice_get (entries self.old) at ≡ Some e
             → HasMovedTo (searched self.old) (entries self.old) e.next e.configuration label.now moved.new.items to }
     {
-        let next = self.kept.next_name(at as usize);
-        let mut plain = self.kept.configuration(at as usize)?;
         let mut made = LabelList::make(alloc);
-        match self.lead(&mut plain, at, next, label, &mut made) {
-            Ok(Lead::To(to)) => {
-                changed_by(&made, moved)?;
-                Ok(Lead::To(to))
-            }
-            Ok(lead) => Ok(lead),
-            Err(_) => Err(AllocError),
-        }
+        let lead = self.lead(at, label, &mut made)?;
+        changed_by(&made, moved)?;
+        Ok(lead)
     }
 
     /// Follows a label of entry `at`, and notes the waiters of the entry that can go on by it. Whether one was noted. An

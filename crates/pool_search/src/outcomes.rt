@@ -6,10 +6,11 @@ ghost use Rattle.pool_syntax.specs.TreeOf.{program_of};
 ghost use Rattle.pool_relation.specs.Transition.{start};
 ghost use Rattle.pool_semantics.specs.PlainOf.{configuration_of, program_tree, is_spent};
 ghost use Rattle.search_laws.specs.Tried.{with_writes};
+ghost use Rattle.reachability.specs.Outcomes.{written};
 ghost use Rattle.visited_set.specs.Courses.{course_of};
 ghost use Rattle.pool_search.specs.Entries.{entries, lists, searched};
 ghost use Rattle.pool_search.specs.FoundOutcomes.{IsNoted, IsShownRun};
-ghost use Rattle.pool_search.specs.OutcomeTargets.{IsShown, IsRunOf, HasAllOutcomes};
+ghost use Rattle.pool_search.specs.OutcomeTargets.{IsEndOf, IsShown, IsRunOf, HasAllOutcomes};
 ghost use Rattle.pool_search.specs.Progress.{AllInOrder, AllReached, HasSearched, IsSearchedTo};
 ghost use Rattle.pool_search.specs.declared.outcomes.Outcome.{Outcome as OneOutcome};
 
@@ -179,6 +180,32 @@ fn find_all<'a, P: Progress>(
     }
 }
 
+/// The outcomes that a search finds which begins with this empty set. An error means out of memory.
+fn outcomes_from<'a, P: Progress>(
+    alloc: Global,
+    program: &Checked<'a>,
+    explored: &mut Explored<'a>,
+    most: u32,
+    progress: &mut P,
+) -> Result<Outcomes, AllocError>
+    requires program { searched explored.old ≡ program_of program.now.program.now }
+    requires none { entries explored.old ≡ [] }
+    requires lists { lists explored.old ≡ [] ∷ [] }
+    ensures shown { IfOk result (λ r. Each (IsShown (program_of program.now.program.now)) r.list.items) }
+    ensures all { IfOk result (λ r. r.whole ≡ true → HasAllOutcomes (program_of program.now.program.now) r.list.items) }
+    ensures within { IfOk result (λ r. r.kept ≤ most) }
+{
+    let mut ends = Ends::make(alloc);
+    match find_all(alloc, program, explored, most, &mut ends, progress) {
+        Ok(whole) => Ok(Outcomes {
+            list: ends.list,
+            whole,
+            kept: explored.count(most),
+        }),
+        Err(_) => Err(AllocError),
+    }
+}
+
 /// Searches all runs of a program for their outcomes. An error means out of memory.
 /// The search is breadth-first, so the outcomes come in the order of the fewest kept configurations.
 /// The list is not complete if more than `most` configurations would be kept,
@@ -193,14 +220,28 @@ pub fn all_outcomes<P: Progress>(
     ensures all { IfOk result (λ r. r.whole ≡ true → HasAllOutcomes (program_of program.now.program.now) r.list.items) }
     ensures within { IfOk result (λ r. r.kept ≤ most) }
 {
-    let mut ends = Ends::make(alloc);
     let mut explored = Explored::make(alloc, program.program);
-    let whole = find_all(alloc, program, &mut explored, most, &mut ends, progress)?;
-    Ok(Outcomes {
-        list: ends.list,
-        whole,
-        kept: explored.count(most),
-    })
+    outcomes_from(alloc, program, &mut explored, most, progress)
+}
+
+/// The outcome of a run with these labels, which ends where the stepper is. None if a label is possible there. An error means
+/// out of memory.
+fn outcome_at(
+    alloc: Global,
+    plain: &Plain<'_>,
+    labels: &LabelList,
+) -> Result<Option<Outcome>, AllocError>
+    requires { is_spent plain.now ≡ false }
+    ensures { IfOk result (λ r. IfSome r (λ o. IsEndOf o.kind (program_tree plain.now) (configuration_of plain.now) × (written labels.now ≡ o.items.items))) }
+{
+    if plain.moving().is_some() {
+        return Ok(None);
+    }
+    let items = written_by(alloc, labels)?;
+    Ok(Some(Outcome {
+        kind: kind_of(plain),
+        items,
+    }))
 }
 
 /// The outcome of the run of these indexes from the start, where the stepper is. Its labels become `labels`. None if the run
@@ -216,17 +257,11 @@ fn outcome_after(
     requires none { labels.old ≡ [] }
     ensures { IfOk result (λ r. IfSome r (λ o. IsRunOf (program_tree plain.old) o labels.new)) }
 {
-    if !retrace(alloc, plain, Keeps::Writes, way, labels)? {
-        return Ok(None);
+    match retrace(alloc, plain, Keeps::Writes, way, labels) {
+        Ok(true) => outcome_at(alloc, plain, labels),
+        Ok(false) => Ok(None),
+        Err(_) => Err(AllocError),
     }
-    if plain.moving().is_some() {
-        return Ok(None);
-    }
-    let items = written_by(alloc, labels)?;
-    Ok(Some(Outcome {
-        kind: kind_of(plain),
-        items,
-    }))
 }
 
 /// The run of these indexes as a run with an outcome. None if the run cannot be repeated, or a label is possible at its
@@ -280,6 +315,30 @@ fn run_at(
     }
 }
 
+/// A run with the outcome at this place in the list that a search finds which begins with this empty set. An error means
+/// out of memory.
+fn run_from<'a, P: Progress>(
+    alloc: Global,
+    program: &Checked<'a>,
+    explored: &mut Explored<'a>,
+    most: u32,
+    place: u32,
+    progress: &mut P,
+) -> Result<OutcomeRun, AllocError>
+    requires program { searched explored.old ≡ program_of program.now.program.now }
+    requires none { entries explored.old ≡ [] }
+    requires lists { lists explored.old ≡ [] ∷ [] }
+    ensures shown { IfOk result (λ r. (o : OneOutcome) (ls : List Label) → r ≡ OutcomeRun.Shown o ls → IsRunOf (program_of program.now.program.now) o ls) }
+    ensures finite { IfOk result (λ r. (k : ℕ) → r ≡ OutcomeRun.Finite k → (os : List OneOutcome) × HasAllOutcomes (program_of program.now.program.now) os × (length os ≤ place)) }
+    ensures within { IfOk result (λ r. (k : ℕ) → (r ≡ OutcomeRun.Finite k) ⊎ (r ≡ OutcomeRun.Over k) → k ≤ most) }
+{
+    let mut ends = Ends::make(alloc);
+    match find_all(alloc, program, explored, most, &mut ends, progress) {
+        Ok(whole) => run_at(alloc, program, explored, &ends, whole, most, place),
+        Err(_) => Err(AllocError),
+    }
+}
+
 /// A run with the outcome at this place in the list that `all_outcomes` gives, counted from 0. An error means out of
 /// memory.
 pub fn outcome_run<P: Progress>(
@@ -293,8 +352,6 @@ pub fn outcome_run<P: Progress>(
     ensures finite { IfOk result (λ r. (k : ℕ) → r ≡ OutcomeRun.Finite k → (os : List OneOutcome) × HasAllOutcomes (program_of program.now.program.now) os × (length os ≤ place)) }
     ensures within { IfOk result (λ r. (k : ℕ) → (r ≡ OutcomeRun.Finite k) ⊎ (r ≡ OutcomeRun.Over k) → k ≤ most) }
 {
-    let mut ends = Ends::make(alloc);
     let mut explored = Explored::make(alloc, program.program);
-    let whole = find_all(alloc, program, &mut explored, most, &mut ends, progress)?;
-    run_at(alloc, program, &explored, &ends, whole, most, place)
+    run_from(alloc, program, &mut explored, most, place, progress)
 }

@@ -1,19 +1,19 @@
 //! Repeats the run that leads to an entry, with each label that is applied.
-ghost use Rattle.std.specs.Prelude.{◌≡◌, Some, IfOk, IfSome, true, false};
+ghost use Rattle.std.specs.Prelude.{◌≡◌, ℕ, [], Ok, IfOk, IfSome, true, false};
 ghost use Rattle.pool_syntax.specs.TreeOf.{program_of};
-ghost use Rattle.pool_relation.specs.Configuration.{Configuration};
-ghost use Rattle.pool_relation.specs.Transition.{run};
 ghost use Rattle.pool_semantics.specs.PlainOf.{configuration_of, program_tree, is_spent};
 ghost use Rattle.pool_search.specs.SearchAnswers.{IsAnswer};
+ghost use Rattle.pool_search.specs.SearchTargets.{IsShownFault, IsWantedEnd};
+ghost use Rattle.pool_search.specs.Steps.{HasRetraced, HasShown};
 
 use crate::changes::next_after;
 use crate::classifier::{Classification, judge};
 use crate::explored::{Origin, name_after};
 use crate::queries::{Query, SearchResult};
-use crate::settling::settle_shown;
+use crate::settling::{make, settle_after, settle_shown};
 use class_check::Checked;
 use label_list::LabelList;
-use pool_semantics::{Plain, Refuse};
+use pool_semantics::Plain;
 use run_types::Label;
 use std::alloc::{AllocError, Global};
 use visited_set::Keeps;
@@ -45,18 +45,13 @@ fn pass(
     shown: &mut LabelList,
 ) -> Result<bool, AllocError>
     requires { is_spent plain.old ≡ false }
-    ensures program { program_tree plain.new ≡ program_tree plain.old }
-    ensures fresh { IfOk result (λ _. is_spent plain.new ≡ false) }
-    ensures leads { IfOk result (λ _. (c : Configuration) → run (program_tree plain.old) c shown.old ≡ Some (configuration_of plain.old)
-        → run (program_tree plain.old) c shown.new ≡ Some (configuration_of plain.new)) }
+    ensures { result ≡ Ok true → HasShown plain.old plain.new shown.old shown.new }
 {
-    match plain.apply(label) {
-        Ok(()) => {}
-        Err(Refuse::NotPossible { .. }) => return Ok(false),
-        Err(Refuse::Memory) => return Err(AllocError),
+    match make(plain, label) {
+        Ok(true) => settle_after(plain, keeps, label, shown),
+        Ok(false) => Ok(false),
+        Err(_) => Err(AllocError),
     }
-    shown.push(label)?;
-    settle_shown(plain, keeps, shown)
 }
 
 /// Applies the label at this index among those to try, and settles. Returns the next free name.
@@ -70,20 +65,18 @@ fn pass_at(
     shown: &mut LabelList,
 ) -> Result<Option<u32>, AllocError>
     requires { is_spent plain.old ≡ false }
-    ensures program { program_tree plain.new ≡ program_tree plain.old }
-    ensures fresh { IfOk result (λ _. is_spent plain.new ≡ false) }
-    ensures leads { IfOk result (λ _. (c : Configuration) → run (program_tree plain.old) c shown.old ≡ Some (configuration_of plain.old)
-        → run (program_tree plain.old) c shown.new ≡ Some (configuration_of plain.new)) }
+    ensures { IfOk result (λ o. IfSome o (λ _. HasShown plain.old plain.new shown.old shown.new)) }
 {
     let mut labels = Vec::new(alloc);
     plain.labels(next, &mut labels)?;
     let Some(label) = labels.get(place as usize) else {
         return Ok(None);
     };
-    if !pass(plain, keeps, label, shown)? {
-        return Ok(None);
+    match pass(plain, keeps, label, shown) {
+        Ok(true) => Ok(name_after(next, label)),
+        Ok(false) => Ok(None),
+        Err(_) => Err(AllocError),
     }
-    Ok(name_after(next, label))
 }
 
 /// Repeats a run from the start. `way` has the indexes of its labels, the last first.
@@ -96,10 +89,7 @@ pub fn retrace(
     shown: &mut LabelList,
 ) -> Result<bool, AllocError>
     requires { is_spent plain.old ≡ false }
-    ensures program { program_tree plain.new ≡ program_tree plain.old }
-    ensures fresh { IfOk result (λ _. is_spent plain.new ≡ false) }
-    ensures leads { IfOk result (λ _. (c : Configuration) → run (program_tree plain.old) c shown.old ≡ Some (configuration_of plain.old)
-        → run (program_tree plain.old) c shown.new ≡ Some (configuration_of plain.new)) }
+    ensures { result ≡ Ok true → HasShown plain.old plain.new shown.old shown.new }
 {
     if !settle_shown(plain, keeps, shown)? {
         return Ok(false);
@@ -115,6 +105,46 @@ pub fn retrace(
     Ok(true)
 }
 
+/// Repeats a run of a search for states in the same way, and returns the next free name after it. None also if its labels do
+/// not give new objects the names 1, 2, .. in order, or if no name of 32 bits is left.
+pub fn retrace_in_order(
+    alloc: Global,
+    plain: &mut Plain<'_>,
+    way: &[u32],
+    shown: &mut LabelList,
+) -> Result<Option<u32>, AllocError>
+    requires fresh { is_spent plain.old ≡ false }
+    requires none { shown.old ≡ [] }
+    ensures { IfOk result (λ o. IfSome o (λ n. HasRetraced plain.old plain.new shown.new n)) }
+{
+    match retrace(alloc, plain, Keeps::States, way, shown) {
+        Ok(true) => Ok(next_after(1, shown)),
+        Ok(false) => Ok(None),
+        Err(_) => Err(AllocError),
+    }
+}
+
+/// Repeats a run from the start, and returns the kind of its last configuration. `Neither` also if the run cannot be
+/// repeated, or if no name of 32 bits is left. An error means out of memory.
+fn judge_end(
+    alloc: Global,
+    plain: &mut Plain<'_>,
+    way: &[u32],
+    question: &Query,
+    shown: &mut LabelList,
+) -> Result<Classification, AllocError>
+    requires fresh { is_spent plain.old ≡ false }
+    requires none { shown.old ≡ [] }
+    ensures stuck { result ≡ Ok Classification.Stuck → ((n : ℕ) × HasRetraced plain.old plain.new shown.new n) × IsWantedEnd (program_tree plain.new) question.now (configuration_of plain.new) }
+    ensures fault { result ≡ Ok Classification.Fault → ((n : ℕ) × HasRetraced plain.old plain.new shown.new n) × IsShownFault (program_tree plain.new) question.now (configuration_of plain.new) }
+{
+    match retrace_in_order(alloc, plain, way, shown) {
+        Ok(Some(_)) => Ok(judge(plain, question)),
+        Ok(None) => Ok(Classification::Neither),
+        Err(_) => Err(AllocError),
+    }
+}
+
 /// The run of these indexes as a result. None if the run cannot be repeated, if no name of 32 bits is left, or if the query
 /// does not look for its end. An error means out of memory.
 pub fn show(
@@ -127,15 +157,10 @@ pub fn show(
 {
     let mut plain = Plain::make(alloc, program, 0)?;
     let mut shown = LabelList::make(alloc);
-    if !retrace(alloc, &mut plain, Keeps::States, way, &mut shown)? {
-        return Ok(None);
+    match judge_end(alloc, &mut plain, way, question, &mut shown) {
+        Ok(Classification::Stuck) => Ok(Some(SearchResult::Stuck(shown))),
+        Ok(Classification::Fault) => Ok(Some(SearchResult::Fault(shown))),
+        Ok(Classification::Neither) => Ok(None),
+        Err(_) => Err(AllocError),
     }
-    let Some(_) = next_after(1, &shown) else {
-        return Ok(None);
-    };
-    Ok(match judge(&plain, question) {
-        Classification::Stuck => Some(SearchResult::Stuck(shown)),
-        Classification::Fault => Some(SearchResult::Fault(shown)),
-        Classification::Neither => None,
-    })
 }

@@ -14,11 +14,10 @@ ghost use Rattle.pool_search.specs.SearchTargets.{IsFinite, IsShownFault, IsWant
 ghost use Rattle.pool_search.specs.SearchAnswers.{IsAnswer};
 ghost use Rattle.pool_search.specs.declared.queries.Query.{Query};
 
-use crate::changes::next_after;
 use crate::explored::{Explored, Origin, RunEnd};
 use crate::progress::Progress;
 use crate::queries::{Query, SearchResult, Target};
-use crate::retracing::{retrace, show, way_to};
+use crate::retracing::{retrace_in_order, show, way_to};
 use crate::scope::Scope;
 use class_check::Checked;
 use label_list::LabelList;
@@ -68,21 +67,11 @@ fn dead_after<'a>(
     ensures { IfOk result (λ r. IfSome r (λ names. (q : Query) → wants_stuck q.wanted ≡ true → IsAnswer (program_tree plain.old) q (SearchResult.Dead labels.new names))) }
 {
     let way = way_to(alloc, &explored.origins, at)?;
-    if !retrace(alloc, plain, Keeps::States, &way, labels)? {
-        return Ok(None);
+    match retrace_in_order(alloc, plain, &way, labels) {
+        Ok(Some(next)) => explored.dead_where(waiters, plain, at, next),
+        Ok(None) => Ok(None),
+        Err(_) => Err(AllocError),
     }
-    let Some(next) = next_after(1, labels) else {
-        return Ok(None);
-    };
-    let written = explored.kept.written(at as usize);
-    let Some(place) = explored.kept.find(plain, next, written)? else {
-        return Ok(None);
-    };
-    let names = explored.dead_at(waiters, plain, place)?;
-    if names.is_empty() {
-        return Ok(None);
-    }
-    Ok(Some(names))
 }
 
 /// The run to an entry, with the objects that are dead there. None if none is known to be dead. An error means out of
@@ -176,6 +165,30 @@ fn answer<'a, P: Progress>(
     }
 }
 
+/// The result of a search that begins with this empty set. An error means out of memory.
+fn search_from<'a, P: Progress>(
+    alloc: Global,
+    program: &Checked<'a>,
+    explored: &mut Explored<'a>,
+    question: &Query,
+    progress: &mut P,
+) -> Result<SearchResult, AllocError>
+    requires program { searched explored.old ≡ program_of program.now.program.now }
+    requires none { entries explored.old ≡ [] }
+    requires lists { lists explored.old ≡ [] ∷ [] }
+    ensures { IfOk result (λ f. IsAnswer (program_of program.now.program.now) question.now f) }
+{
+    let scope = Scope {
+        keeps: Keeps::States,
+        most: question.most,
+    };
+    match begin(alloc, program, explored, scope) {
+        Ok(true) => answer(alloc, program, explored, question, progress),
+        Ok(false) => Ok(SearchResult::Over(0)),
+        Err(_) => Err(AllocError),
+    }
+}
+
 /// Searches all runs of a program for one that the query looks for. An error means out of memory.
 /// The search is breadth-first, so the run of a result `Stuck` or `Fault` passes the fewest kept configurations.
 /// If no run leads to such a configuration, but a dead object is found, the result is `Dead`. Its run leads to one of the
@@ -197,15 +210,6 @@ pub fn search<P: Progress>(
     ensures finite { (k : ℕ) → result ≡ Ok (SearchResult.Finite k) → IsFinite (program_of program.now.program.now) question.now k }
     ensures over { (k : ℕ) → result ≡ Ok (SearchResult.Over k) → k ≤ question.now.most }
 {
-    let scope = Scope {
-        keeps: Keeps::States,
-        most: question.most,
-    };
     let mut explored = Explored::make(alloc, program.program);
-    match begin(alloc, program, &mut explored, scope) {
-        Ok(true) => {}
-        Ok(false) => return Ok(SearchResult::Over(0)),
-        Err(_) => return Err(AllocError),
-    }
-    answer(alloc, program, &mut explored, question, progress)
+    search_from(alloc, program, &mut explored, question, progress)
 }

@@ -1,11 +1,8 @@
 //! Settling: transitions that need no choice are made at once, and only the configuration after them is kept.
-ghost use Rattle.std.specs.Prelude.{◌≡◌, ◌++◌, List, Some, IfOk, IfSome, IfNone, true, false};
-ghost use Rattle.run_types.specs.declared.types.Label.{Label as OneLabel};
-ghost use Rattle.pool_relation.specs.Configuration.{Configuration};
-ghost use Rattle.pool_relation.specs.Transition.{transition, run};
-ghost use Rattle.pool_semantics.specs.PlainOf.{configuration_of, program_tree, is_spent};
-ghost use Rattle.search_laws.specs.Tried.{Follows};
-ghost use Rattle.visited_set.specs.Courses.{all_followed, course_of};
+ghost use Rattle.std.specs.Prelude.{◌≡◌, ◌∷◌, ◌++◌, [], Ok, IfOk, IfSome, true, false};
+ghost use Rattle.pool_semantics.specs.PlainOf.{is_spent};
+ghost use Rattle.visited_set.specs.Courses.{course_of};
+ghost use Rattle.pool_search.specs.Steps.{HasFollowed, HasMade, HasSettled, HasStepped};
 
 use label_list::LabelList;
 use pool_semantics::{Plain, Refuse, agent};
@@ -19,8 +16,7 @@ pub const SETTLE: u32 = 1_000_000;
 /// A possible transition that the search follows without keeping the configurations between. None if there is none.
 fn to_follow(plain: &Plain<'_>, keeps: Keeps) -> Option<Label>
     requires { is_spent plain.now ≡ false }
-    ensures follows { IfSome result (λ l. (course_of keeps).follows l ≡ true) }
-    ensures possible { IfSome result (λ l. (d : Configuration) × (transition (program_tree plain.now) (configuration_of plain.now) l ≡ Some d)) }
+    ensures { IfSome result (λ l. (course_of keeps).follows l ≡ true) }
 {
     match keeps {
         Keeps::States => plain.without_choice(),
@@ -28,20 +24,30 @@ fn to_follow(plain: &Plain<'_>, keeps: Keeps) -> Option<Label>
     }
 }
 
-/// Makes the local transition of this object, and returns its label. None if the object can make none; then nothing
-/// changes. An error means out of memory.
-fn go_on_alone(plain: &mut Plain<'_>, object: u32) -> Result<Option<Label>, AllocError>
+/// Makes the transition with this label. `false` if it is impossible; then nothing changes. An error means out of memory.
+pub fn make(plain: &mut Plain<'_>, label: &Label) -> Result<bool, AllocError>
     requires { is_spent plain.old ≡ false }
-    ensures program { program_tree plain.new ≡ program_tree plain.old }
-    ensures fresh { IfOk result (λ _. is_spent plain.new ≡ false) }
-    ensures made { IfOk result (λ r. IfSome r (λ l. (l ≡ OneLabel.Local object) × (transition (program_tree plain.old) (configuration_of plain.old) l ≡ Some (configuration_of plain.new)))) }
-    ensures same { IfOk result (λ r. IfNone r (configuration_of plain.new ≡ configuration_of plain.old)) }
+    ensures { IfOk result (λ yes. HasMade plain.old plain.new label.now yes) }
 {
-    let label = Label::Local { object };
-    match plain.apply(&label) {
-        Ok(()) => Ok(Some(label)),
-        Err(Refuse::NotPossible { .. }) => Ok(None),
+    match plain.apply(label) {
+        Ok(()) => Ok(true),
+        Err(Refuse::NotPossible { .. }) => Ok(false),
         Err(Refuse::Memory) => Err(AllocError),
+    }
+}
+
+/// Makes a transition that the search follows, and returns its label. None if there is none. An error means out of memory.
+fn follow_once(plain: &mut Plain<'_>, keeps: Keeps) -> Result<Option<Label>, AllocError>
+    requires { is_spent plain.old ≡ false }
+    ensures { IfOk result (λ r. HasStepped (course_of keeps) plain.old plain.new r) }
+{
+    let Some(label) = to_follow(plain, keeps) else {
+        return Ok(None);
+    };
+    match make(plain, &label) {
+        Ok(true) => Ok(Some(label)),
+        Ok(false) => Ok(None),
+        Err(_) => Err(AllocError),
     }
 }
 
@@ -49,24 +55,13 @@ fn go_on_alone(plain: &mut Plain<'_>, object: u32) -> Result<Option<Label>, Allo
 /// one, so that a chain of them looks at no other object. None if there is none. An error means out of memory.
 fn settle_once(plain: &mut Plain<'_>, keeps: Keeps, last: u32) -> Result<Option<Label>, AllocError>
     requires { is_spent plain.old ≡ false }
-    ensures program { program_tree plain.new ≡ program_tree plain.old }
-    ensures fresh { IfOk result (λ _. is_spent plain.new ≡ false) }
-    ensures follows { IfOk result (λ r. IfSome r (λ l. (course_of keeps).follows l ≡ true)) }
-    ensures made { IfOk result (λ r. IfSome r (λ l. transition (program_tree plain.old) (configuration_of plain.old) l ≡ Some (configuration_of plain.new))) }
-    ensures same { IfOk result (λ r. IfNone r (configuration_of plain.new ≡ configuration_of plain.old)) }
+    ensures { IfOk result (λ r. HasStepped (course_of keeps) plain.old plain.new r) }
 {
-    match go_on_alone(plain, last) {
-        Ok(None) => {}
-        Ok(Some(label)) => return Ok(Some(label)),
-        Err(_) => return Err(AllocError),
-    }
-    let Some(label) = to_follow(plain, keeps) else {
-        return Ok(None);
-    };
-    match plain.apply(&label) {
-        Ok(()) => Ok(Some(label)),
-        Err(Refuse::NotPossible { .. }) => unreachable!(),
-        Err(Refuse::Memory) => Err(AllocError),
+    let alone = Label::Local { object: last };
+    match make(plain, &alone) {
+        Ok(true) => Ok(Some(alone)),
+        Ok(false) => follow_once(plain, keeps),
+        Err(_) => Err(AllocError),
     }
 }
 
@@ -74,9 +69,7 @@ fn settle_once(plain: &mut Plain<'_>, keeps: Keeps, last: u32) -> Result<Option<
 /// An error means out of memory.
 pub fn settle(plain: &mut Plain<'_>, keeps: Keeps) -> Result<bool, AllocError>
     requires { is_spent plain.old ≡ false }
-    ensures program { program_tree plain.new ≡ program_tree plain.old }
-    ensures fresh { IfOk result (λ _. is_spent plain.new ≡ false) }
-    ensures follows { IfOk result (λ _. Follows (program_tree plain.old) (course_of keeps) (configuration_of plain.old) (configuration_of plain.new)) }
+    ensures { result ≡ Ok true → HasFollowed (course_of keeps) plain.old plain.new }
 {
     let mut last = 0;
     for _made in 0..SETTLE {
@@ -96,11 +89,7 @@ pub fn settle_shown(
     shown: &mut LabelList,
 ) -> Result<bool, AllocError>
     requires { is_spent plain.old ≡ false }
-    ensures program { program_tree plain.new ≡ program_tree plain.old }
-    ensures fresh { IfOk result (λ _. is_spent plain.new ≡ false) }
-    ensures leads { IfOk result (λ _. (c : Configuration) → run (program_tree plain.old) c shown.old ≡ Some (configuration_of plain.old)
-        → run (program_tree plain.old) c shown.new ≡ Some (configuration_of plain.new)) }
-    ensures followed { IfOk result (λ _. (added : List OneLabel) × (shown.new ≡ shown.old ++ added) × (all_followed (course_of keeps) added ≡ true)) }
+    ensures { result ≡ Ok true → HasSettled (course_of keeps) plain.old plain.new shown.old shown.new }
 {
     let mut last = 0;
     for _made in 0..SETTLE {
@@ -114,4 +103,20 @@ pub fn settle_shown(
         }
     }
     Ok(false)
+}
+
+/// Appends a label that was made to `shown`, and settles in the same way.
+pub fn settle_after(
+    plain: &mut Plain<'_>,
+    keeps: Keeps,
+    label: &Label,
+    shown: &mut LabelList,
+) -> Result<bool, AllocError>
+    requires { is_spent plain.old ≡ false }
+    ensures { result ≡ Ok true → HasSettled (course_of keeps) plain.old plain.new (shown.old ++ label.now ∷ []) shown.new }
+{
+    match shown.push(label) {
+        Ok(()) => settle_shown(plain, keeps, shown),
+        Err(_) => Err(AllocError),
+    }
 }

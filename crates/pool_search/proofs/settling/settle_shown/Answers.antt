@@ -1,38 +1,26 @@
-use Rattle.std.proofs.Common.{◌≡◌, [], ◌∷◌, ◌++◌, refl, sym, subst, ap, ◌∙◌, Some, true, append_assoc}
-use Rattle.std.specs.Prelude.{IfSome}
-use Rattle.std.proofs.lemmas.List.{append-nil}
-use Rattle.pool_syntax.specs.Terms.{ProgramTree}
-use Rattle.pool_relation.specs.Transition.{transition, run}
-use Rattle.pool_semantics.specs.PlainOf.{configuration_of, program_tree}
+use Rattle.std.proofs.Common.{List, subst, sym}
+use Rattle.run_types.specs.declared.types.Label.{Label}
 use Rattle.visited_set.specs.Courses.{course_of}
-use Rattle.pool_search.proofs.RunExtension.{run_more, followed_more}
+use Rattle.pool_search.specs.Steps.{HasSettled, HasStepped}
+use Rattle.pool_search.proofs.StepperRuns.{settled_more, settled_none, settled_still}
 use Rattle.pool_search.proofs.settling.settle_shown.Goals as goal
 
 pub loop-made-init : goal.loop-made-init
-loop-made-init c = record { program = refl; fresh = c.requires; leads = λ k h. h; followed = ([], sym (append-nil c.args.shown.now), refl) }
+loop-made-init c = settled_none (course_of c.args.keeps) c.args.plain.now c.args.shown.now c.requires
+
+pub settle_once-requires : goal.settle_once-requires
+settle_once-requires c = c.loop-made.invariant.ran.fresh
 
 pub loop-made-preserved : goal.loop-made-preserved
 loop-made-preserved c =
     let l = c.loop-made in
-    let p = program_tree c.args.plain.now in
-    let from = configuration_of l.plain in
-    let to = configuration_of c.settle_once.new.plain in
-    let made = c.in-Ok-Some.label in
     let k = course_of c.args.keeps in
-    let more = l.invariant.followed in
-    let free : k.follows made ≡ true = subst (λ o. IfSome o (λ m. k.follows m ≡ true)) c.in-Ok-Some.field-0-is c.in-Ok-Some.ensures.follows in
-    let step : transition (program_tree l.plain) from made ≡ Some to =
-    subst (λ o. IfSome o (λ k. transition (program_tree l.plain) from k ≡ Some to)) c.in-Ok-Some.field-0-is c.in-Ok-Some.ensures.made
-    in
-    record {
-      program = c.settle_once.ensures.program ∙ l.invariant.program;
-      fresh = c.in-Ok-Some.ensures.fresh;
-      leads = λ k h.
-          ap (run p k) c.in_ok-push-in-Ok-Some.ensures.ok
-          ∙ run_more p k from to l.shown made (l.invariant.leads k h) (subst (λ (q : ProgramTree). transition q from made ≡ Some to) l.invariant.program step);
-      followed = (
-        more.0 ++ made ∷ [],
-        c.in_ok-push-in-Ok-Some.ensures.ok ∙ ap (λ xs. xs ++ made ∷ []) more.1 ∙ append_assoc c.args.shown.now more.0 (made ∷ []),
-        followed_more k more.0 made more.2 free,
-      );
-    }
+    let step = subst (HasStepped k l.plain c.settle_once.new.plain) c.in-Ok-Some.field-0-is c.in-Ok-Some.ensures in
+    subst (λ (ls : List Label). HasSettled k c.args.plain.now c.settle_once.new.plain c.args.shown.now ls) (sym c.in_ok-push-in-Ok-Some.ensures.ok)
+    (settled_more k c.args.plain.now l.plain c.settle_once.new.plain c.args.shown.now l.shown c.in-Ok-Some.label l.invariant step.0 step.1)
+
+pub returns-in-Ok-None : goal.returns-in-Ok-None
+returns-in-Ok-None c = λ _.
+    let l = c.loop-made in
+    let k = course_of c.args.keeps in
+    settled_still k c.args.plain.now l.plain c.settle_once.new.plain c.args.shown.now l.shown l.invariant (subst (HasStepped k l.plain c.settle_once.new.plain) c.in-Ok-None.field-0-is c.in-Ok-None.ensures)

@@ -1,7 +1,6 @@
-use Rattle.std.proofs.Common.{◌≡◌, ◌⊎◌, ◌<◌, ◌∙◌, inl, inr, refl, subst, sym, ap, Ok, Bool, true, false, not, length, arith}
+use Rattle.std.proofs.Common.{◌≡◌, ◌⊎◌, ◌<◌, ◌∙◌, inl, inr, refl, subst, sym, ap, Ok, Some, Bool, true, false, not, length, slice_get, arith}
 use Rattle.pool_syntax.specs.Terms.{ProgramTree}
-use Rattle.pool_relation.specs.Configuration.{Configuration}
-use Rattle.pool_semantics.specs.PlainOf.{configuration_of}
+use Rattle.search_laws.specs.Outcomes.{Passed}
 use Rattle.pool_search.specs.declared.choices.Trial.TheVariants as T
 use Rattle.pool_search.specs.Entries.{entries, searched}
 use Rattle.pool_search.specs.Leads.{IsBeside, OneStaysOn}
@@ -18,37 +17,37 @@ either : {A B C : Type 0} → (A → C) → (B → C) → A ⊎ B → C
 either f g (inl a) = f a
 either f g (inr b) = g b
 
--- a property of a program, a list and a configuration under equal ones
-moved : (Q : ProgramTree → Entries → Configuration → Type 0) → {p q : ProgramTree} {es fs : Entries} {c d : Configuration} → p ≡ q → es ≡ fs → c ≡ d → Q p es c → Q q fs d
-moved Q {p} {q} {es} {fs} {c} {d} i j k h = subst (Q q fs) k (subst (λ (xs : Entries). Q q xs c) j (subst (λ (r : ProgramTree). Q r es c) i h))
+-- a property of a program and a list under equal ones
+moved : (Q : ProgramTree → Entries → Type 0) → {p q : ProgramTree} {es fs : Entries} → p ≡ q → es ≡ fs → Q p es → Q q fs
+moved Q {p} {q} {es} {fs} i j h = subst (Q q) j (subst (λ (r : ProgramTree). Q r es) i h)
+
+pub stays_beside-requires : goal.stays_beside-requires
+stays_beside-requires c = subst (λ (es : Entries). c.args.at < length es) (sym c.loop-label.invariant.same) c.requires
 
 pub loop-label-preserved : goal.loop-label-preserved
 loop-label-preserved c =
     let l = c.loop-label in
     let o = c.args.suspect.now.object in
-    let n = c.args.next in
     let ws = c.args.suspect.now.waiters.now.list.items in
     let labels = c.args.labels.now in
     let asked = is_asked c.args.served in
     let p = searched c.args.self.now in
     let es = entries c.args.self.now in
-    let at = configuration_of c.args.plain.now in
+    let at = c.args.at in
     let tried : is_tried c.in-Ok.now ≡ true = not_over (is_tried c.in-Ok.now) (sym c.is_over.ensures ∙ c.if-is_over.false) in
     let inside : l.label-index < length labels = omega (arith, c.loop-label-test.true, l.auto.label-index-end) in
+    let still : (e : Passed) → slice_get es at ≡ Some e → slice_get (entries l.self) at ≡ Some e = λ e g. ap (λ (xs : Entries). slice_get xs at) l.invariant.same ∙ g in
     record {
       same = c.stays_beside.ensures.same ∙ l.invariant.same;
       program = c.stays_beside.ensures.program ∙ l.invariant.program;
-      again = c.in-Ok.ensures.again ∙ l.invariant.again;
-      same_program = c.in-Ok.ensures.same_program ∙ l.invariant.same_program;
-      fresh = c.in-Ok.ensures.fresh;
       in_bounds = tried;
-      led = λ i told.
-          either (λ h. l.invariant.led i h) (λ h. moved (λ q xs d. OneStaysOn q xs ws o c.args.at n d c.args.served i) l.invariant.program l.invariant.same l.invariant.again h)
+      led = λ i told e g.
+          either (λ h. l.invariant.led i h e g) (λ h. moved (λ q xs. OneStaysOn q xs ws o at e.next e.configuration c.args.served i) l.invariant.program l.invariant.same (h e (still e g)))
           (c.in-Ok.ensures.led i (ap Ok told));
-      so_far = λ rest.
-          one_more_beside (IsBeside p es ws o n at) asked labels l.label-index _ inside
-          (subst (λ x. asked x ≡ true → IsBeside p es ws o n at x) c.label-item.is
-          (λ h. moved (λ q xs d. IsBeside q xs ws o n d c.label-item.result) l.invariant.program l.invariant.same l.invariant.again (c.in-Ok.ensures.tried tried h))) l.invariant.so_far rest;
+      so_far = λ e g rest.
+          one_more_beside (IsBeside p es ws o e.next e.configuration) asked labels l.label-index _ inside
+          (subst (λ x. asked x ≡ true → IsBeside p es ws o e.next e.configuration x) c.label-item.is
+          (λ h. moved (λ q xs. IsBeside q xs ws o e.next e.configuration c.label-item.result) l.invariant.program l.invariant.same (c.in-Ok.ensures.tried tried h e (still e g)))) (l.invariant.so_far e g) rest;
     }
 
 pub returns-clause-led : goal.returns-clause-led

@@ -28,7 +28,7 @@ returns-clause-expanded c = λ i told e g.
     let sorted : IsInOrder e.configuration = each_at (λ (x : Passed). IsInOrder x.configuration) old at e c.requires.in_order g in
     let enough : (l : Label) (d : Configuration) → is_served b l ≡ true → transition p e.configuration l ≡ Some d → IsAwaited p e.next b e.configuration =
     (subst (λ o. IfSome o (λ x. IsInOrder x.configuration → (l : Label) (d : Configuration) → is_served b l ≡ true → transition p x.configuration l ≡ Some d → IsAwaited p x.next b x.configuration)) g
-    (c.is_only_awaited.ensures c.if-not-is_only_awaited.false)) sorted
+    (c.are_enough.ensures c.if-not-are_enough.false)) sorted
     in
     let all : AllLeadInto p k es e.next e.items e.configuration (filter asked labels) =
     (subst (λ r. IfOk r (λ t. is_tried t ≡ true → (x : Passed) → slice_get old at ≡ Some x → AllLeadInto p k es x.next x.items x.configuration (filter asked labels))) told c.try_labels.ensures.tried) refl e

@@ -2,7 +2,7 @@ use Rattle.std.proofs.Common.{ap, Ok}
 use Rattle.search_laws.specs.Tried.{states_only}
 use Rattle.pool_search.specs.Entries.{IsPassedOver, entries, searched}
 use Rattle.pool_search.proofs.SearchComplete.{searched_begun}
-use Rattle.pool_search.proofs.searching.search.Goals as goal
+use Rattle.pool_search.proofs.searching.search_from.Goals as goal
 
 pub answer-requires-clause-begun : goal.answer-requires-clause-begun
 answer-requires-clause-begun g c =
