@@ -7,7 +7,7 @@ use thiserror::Error;
 
 /// The fault of a placement. Lines are numbered from 1. The first line with a fault counts, and of its faults the first
 /// in this order.
-#[derive(Clone, Copy, Debug, PartialEq, Eq, Error)]
+#[derive(Clone, Copy, Debug, Error)]
 pub enum PlacementFault {
     /// The line has none of the forms of a placement's line, or it is the first content line and no `mesh` line.
     #[error("line {line} has no form of a placement")]

@@ -288,6 +288,7 @@ pub fn read_routed(
     let placement = placement_in(alloc, unit, mesh, forms.as_slice())?;
     let words = words(&placement, most_vars(unit.classes.items()));
     if words > MOST_WORDS {
+        drop(placement);
         return Err(PlacementFault::TooLarge { words });
     }
     match routed(alloc, placement) {

@@ -213,11 +213,18 @@ pub fn load_texts(
     };
     let layout = match judge_placement(alloc, placement, &unit) {
         Ok(layout) => layout,
-        Err(stop) => return Err(stop),
+        Err(stop) => {
+            drop(unit);
+            return Err(stop);
+        }
     };
     let plan = match judge_schedule(alloc, schedule, &layout) {
         Ok(plan) => plan,
-        Err(stop) => return Err(stop),
+        Err(stop) => {
+            drop(layout);
+            drop(unit);
+            return Err(stop);
+        }
     };
     Ok(Loaded {
         unit,

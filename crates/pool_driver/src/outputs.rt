@@ -58,11 +58,18 @@ fn run_output<F: Files>(
     };
     let placement = match read_placed(alloc, files, names.placement, &unit) {
         Ok(placement) => placement,
-        Err(stop) => return Err(stop),
+        Err(stop) => {
+            drop(unit);
+            return Err(stop);
+        }
     };
     let schedule = match read_scheduled(alloc, files, names.schedule, &placement) {
         Ok(schedule) => schedule,
-        Err(stop) => return Err(stop),
+        Err(stop) => {
+            drop(placement);
+            drop(unit);
+            return Err(stop);
+        }
     };
     let loaded = Loaded {
         unit,
@@ -197,11 +204,18 @@ fn load_output<F: Files>(
     };
     let placement = match read_placed(alloc, files, place, &unit) {
         Ok(placement) => placement,
-        Err(stop) => return Err(stop),
+        Err(stop) => {
+            drop(unit);
+            return Err(stop);
+        }
     };
     let schedule = match read_scheduled(alloc, files, plan, &placement) {
         Ok(schedule) => schedule,
-        Err(stop) => return Err(stop),
+        Err(stop) => {
+            drop(placement);
+            drop(unit);
+            return Err(stop);
+        }
     };
     let loaded = Loaded {
         unit,

@@ -98,7 +98,11 @@ pub fn pool<F: Files, K: Sink, E: Sink>(
     };
     match asked {
         Some(command) => match make_output(alloc, files, command) {
-            Ok(made) => write_output(alloc, out, &made),
+            Ok(made) => {
+                let status = write_output(alloc, out, &made);
+                drop(made);
+                status
+            }
             Err(stop) => say_stop(alloc, err, stop),
         },
         None => say(err, USAGE, Status::Usage),

@@ -21,12 +21,12 @@ returns-in-Err-clause-complete g c r words served read out err = inr refl
 
 pub returns-in-Ok-make_output-clause-ends : goal.returns-in-Ok-make_output-clause-ends
 returns-in-Ok-make_output-clause-ends g c =
-    text_ends pool_program text_of status_of_output IsPrintable _ _ _ _ (request c.in-Some.command) c.in-Ok-make_output.made c.write_output.result (sym c.in-Ok.ensures.request ∙ ap (option_map request) c.in-Some.is) c.in-Ok-make_output.ensures.makes c.write_output.ensures (refl, refl)
+    text_ends pool_program text_of status_of_output IsPrintable _ _ _ _ (request c.in-Some.command) c.in-Ok-make_output.made c.write_output-status.result (sym c.in-Ok.ensures.request ∙ ap (option_map request) c.in-Some.is) c.in-Ok-make_output.ensures.makes c.write_output-status.ensures (refl, refl)
 
 pub returns-in-Ok-make_output-clause-complete : goal.returns-in-Ok-make_output-clause-complete
 returns-in-Ok-make_output-clause-complete g c r words served read out err =
-    text_completes pool_program text_of status_of_output IsPrintable output_whole _ _ _ (g.E.Sink.written c.args.err.now) (g.E.Sink.faults c.args.err.now) (request c.in-Some.command) c.in-Ok-make_output.made c.write_output.result
-    (sym c.in-Ok.ensures.request ∙ ap (option_map request) c.in-Some.is) c.in-Ok-make_output.ensures.makes c.write_output.ensures r words (served_inputs _ r served) (never_unfit _ r served) read out err
+    text_completes pool_program text_of status_of_output IsPrintable output_whole _ _ _ (g.E.Sink.written c.args.err.now) (g.E.Sink.faults c.args.err.now) (request c.in-Some.command) c.in-Ok-make_output.made c.write_output-status.result
+    (sym c.in-Ok.ensures.request ∙ ap (option_map request) c.in-Some.is) c.in-Ok-make_output.ensures.makes c.write_output-status.ensures r words (served_inputs _ r served) (never_unfit _ r served) read out err
 
 pub returns-in-Err-make_output-clause-ends : goal.returns-in-Err-make_output-clause-ends
 returns-in-Err-make_output-clause-ends g c =
