@@ -19,9 +19,9 @@ use Rattle.pool_lexer.proofs.Laws.{same_tokens, same_first_fault, not_both}
 use Rattle.expression_parser.specs.declared.fault.SyntaxFault.{SyntaxFault}
 use Rattle.expression_parser.specs.declared.fault.SyntaxFault.TheVariants as Syntax
 use Rattle.class_check.specs.Least.{IsBelow, IsLeastFault}
-use Rattle.class_check.specs.PairOf.{pair_of}
-use Rattle.class_check.specs.declared.fault.ClassFault.{ClassFault}
-use Rattle.class_check.specs.declared.fault.ClassFault.TheVariants as C
+use Rattle.type_check.specs.PairOf.{pair_of}
+use Rattle.type_check.specs.declared.fault.ClassFault.{ClassFault}
+use Rattle.type_check.specs.declared.fault.ClassFault.TheVariants as C
 use Rattle.command_inputs.specs.declared.fault.Fault.{Fault}
 use Rattle.command_inputs.specs.declared.fault.Fault.TheVariants as F
 use Rattle.pool_grammar.specs.Programs.{HasProgram, IsParsed, IsTextOf}

@@ -10,11 +10,11 @@ use Rattle.pool_syntax.specs.TreeOf.{class_tree, method_tree, statements_of}
 use Rattle.pool_syntax.specs.FaultNumbers as N
 use Rattle.pool_syntax.specs.Limits as L
 use Rattle.pool_syntax.specs.Typing.{Scope, FaultAt, vars_faults, too_many, fault_if, kind_faults, method_tree_faults, methods_faults, classes_faults, class_scope, statements_faults}
-use Rattle.class_check.specs.declared.fault.ClassFault.{ClassFault}
-use Rattle.class_check.specs.NotedFaults.{noted, Notes, found_of}
-use Rattle.class_check.specs.Before.{names_before}
-use Rattle.class_check.proofs.FaultAccumulation.{noted_append}
-use Rattle.class_check.proofs.BeforeLaws.{before_more, any_before, length-before}
+use Rattle.type_check.specs.declared.fault.ClassFault.{ClassFault}
+use Rattle.type_check.specs.NotedFaults.{noted, Notes, found_of}
+use Rattle.type_check.specs.Before.{names_before}
+use Rattle.type_check.proofs.Laws.{noted_append}
+use Rattle.type_check.proofs.Laws.{before_more, any_before, length-before}
 
 -- what is noted of the variables from one on is what is noted of it and then of those behind it
 pub variable_noted : (p : ProgramTree) (number : ℕ) (us vs : List Var) (i : ℕ) (v : Var) (twice : Bool) (a b : Option ClassFault) → i < length vs → v ≡ get_or vs i v

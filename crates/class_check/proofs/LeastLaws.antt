@@ -3,7 +3,7 @@ use Rattle.std.proofs.Common.{◌≡◌, refl, sym, subst, zero, suc, ◌⊎◌,
 use Rattle.std.proofs.lemmas.Bool.Decides.{nat_tests}
 use Rattle.pool_syntax.specs.Typing.{FaultAt}
 use Rattle.class_check.specs.Least.{IsBelow, IsLeastFault}
-use Rattle.class_check.specs.NotedFaults.{is_below, lower, noted}
+use Rattle.type_check.specs.NotedFaults.{is_below, lower, noted}
 
 not_below_itself : (x : FaultAt) → IsBelow x x → ⊥
 not_below_itself x (inl h) = omega arith

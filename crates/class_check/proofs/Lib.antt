@@ -1,12 +1,4 @@
-pub mod NameLookup
-pub mod FaultAccumulation
-pub mod OperandLimit
-pub mod Arguments
-pub mod ExpressionParts
-pub mod BeforeLaws
-pub mod StatementParts
 pub mod DeclarationParts
 pub mod LeastLaws
-pub mod IndexLaws
 pub mod GrammaticalIsWritten
 pub mod Laws

@@ -6,21 +6,22 @@ ghost use Rattle.pool_syntax.specs.Limits.{most_classes, most_locals, most_metho
 ghost use Rattle.pool_syntax.specs.TreeOf.{class_tree, expression_of, method_tree, statements_of};
 ghost use Rattle.pool_syntax.specs.Typing.{behind_value, class_scope, expression_faults, fault_if, faults, kind_faults, method_tree_faults, methods_faults, outcome_faults, statements_faults};
 ghost use Rattle.pool_syntax.specs.Typing.{too_many, value_needs, vars_faults};
-ghost use Rattle.class_check.specs.Before.{names_before};
-ghost use Rattle.class_check.specs.PairOf.{pair_of};
-ghost use Rattle.class_check.specs.NotedFaults.{Notes};
-ghost use Rattle.class_check.specs.CheckerScopes.{scope_of, twice_number};
+ghost use Rattle.type_check.specs.Before.{names_before};
+ghost use Rattle.type_check.specs.PairOf.{pair_of};
+ghost use Rattle.type_check.specs.Index.{IsIndex};
+ghost use Rattle.type_check.specs.NotedFaults.{Notes};
+ghost use Rattle.type_check.specs.CheckerScopes.{scope_of};
+ghost use Rattle.class_check.specs.TwiceNumber.{twice_number};
 
-use crate::classes::{Classes, method_places};
-use crate::expressions::{placed, variable_at};
-use crate::fault::{ClassFault, note};
-use crate::index::{Index, places_of};
-use crate::scope::Scope;
-use crate::sort::{kind_sort, note_misfit};
-use crate::statements::statements;
 use pool_syntax::{ClassDecl, Method, Stmt, Var};
 use run_types::{Kind, NameId};
 use std::alloc::{AllocError, Global};
+use std::collections::HashMap;
+use type_check::statements::statements;
+use type_check::{
+    ClassFault, Classes, Index, Scope, kind_sort, method_places, note, note_misfit, placed,
+    places_of, variable_at,
+};
 
 /// The largest number of classes of a program.
 const MOST_CLASSES: usize = 256;
@@ -71,7 +72,7 @@ fn is_twice(before: &Index<Var>, vars: &Index<Var>, place: usize, name: NameId) 
 }
 
 /// Notes a variable whose name is already used, and a declared type whose class does not exist.
-#[tactic(auto, using(crate::proofs::FaultAccumulation::noted_append))]
+#[tactic(auto, using(type_check::proofs::Laws::noted_append))]
 fn variable(
     classes: &Classes,
     owner: Owner,
@@ -126,7 +127,7 @@ fn note_too_many_locals(most: usize, params: &[Var], locals: &[Var], first: &mut
 }
 
 /// Notes the faults of a method's value.
-#[tactic(auto, using(crate::proofs::FaultAccumulation::noted_append))]
+#[tactic(auto, using(type_check::proofs::Laws::noted_append))]
 fn value(scope: &Scope, method: &Method, first: &mut Option<ClassFault>)
     ensures { Notes first.old first.new
         (expression_faults (scope_of scope.now) 0 (expression_of method.now.value)
@@ -147,7 +148,7 @@ fn outcome(classes: &Classes, method: &Method, first: &mut Option<ClassFault>)
 }
 
 /// Notes the faults of a method's declarations.
-#[tactic(auto, using(crate::proofs::FaultAccumulation::noted_append, crate::proofs::DeclarationParts::both_variables))]
+#[tactic(auto, using(type_check::proofs::Laws::noted_append, crate::proofs::DeclarationParts::both_variables))]
 fn head(none: &Index<Var>, scope: &Scope, method: &Method, first: &mut Option<ClassFault>)
     requires none { none.now.list.now ≡ [] }
     requires params { scope.now.params.now.list.now ≡ method.now.params }
@@ -188,7 +189,7 @@ fn post(
 }
 
 /// Notes the faults inside a method.
-#[tactic(auto, using(crate::proofs::FaultAccumulation::noted_append))]
+#[tactic(auto, using(type_check::proofs::Laws::noted_append))]
 fn inside(
     alloc: Global,
     none: &Index<Var>,
@@ -240,7 +241,7 @@ fn method(
 }
 
 /// Notes the faults of a method that follows others, which may have its name.
-#[tactic(auto, using(crate::proofs::FaultAccumulation::noted_append))]
+#[tactic(auto, using(type_check::proofs::Laws::noted_append))]
 fn next_method(
     alloc: Global,
     scope: &Scope,
@@ -276,26 +277,27 @@ fn methods(alloc: Global, scope: &Scope, first: &mut Option<ClassFault>) -> Resu
     Ok(())
 }
 
-/// Notes the faults inside a class.
-#[tactic(auto, using(crate::proofs::FaultAccumulation::noted_append))]
+/// Notes the faults inside a class, whose methods have the index `by_name`.
+#[tactic(auto, using(type_check::proofs::Laws::noted_append))]
 fn class(
     alloc: Global,
     classes: &Classes,
+    by_name: &HashMap<u32, usize>,
     class: &ClassDecl,
     first: &mut Option<ClassFault>,
 ) -> Result<(), AllocError>
+    requires { IsIndex (λ m. m.name.name.0) by_name.now class.now.methods }
     ensures { OnOk result (Notes first.old first.new
         (vars_faults (map class_tree classes.now.list.now) variable_twice [] class.now.vars ++ (too_many most_variables class.now.vars
         ++ (methods_faults (class_scope (map class_tree classes.now.list.now) (class_tree class.now)) [] (map method_tree class.now.methods)
         ++ statements_faults (class_scope (map class_tree classes.now.list.now) (class_tree class.now)) (statements_of class.now.body))))) }
 {
-    let no_places = places_of::<Var>(alloc, &[])?;
-    let var_places = places_of(alloc, class.vars.items())?;
-    let method_places = places_of(alloc, class.methods.items())?;
+    let no_places = HashMap::new(alloc);
     let none = Index {
         list: &[],
         places: &no_places,
     };
+    let var_places = places_of(alloc, class.vars.items())?;
     let vars = Index {
         list: class.vars.items(),
         places: &var_places,
@@ -303,7 +305,7 @@ fn class(
     let scope = Scope {
         classes,
         own: class,
-        methods: &method_places,
+        methods: by_name,
         vars: &vars,
         params: &none,
         locals: &none,
@@ -312,19 +314,20 @@ fn class(
     variables(classes, Owner::Class, &none, &vars, first);
     note_too_many(MOST_VARIABLES, vars.list, first);
     methods(alloc, &scope, first)?;
-    statements(alloc, &scope, class.body.items(), first)?;
-    Ok(())
+    statements(alloc, &scope, class.body.items(), first)
 }
 
-/// Notes the faults of a class that follows others, which may have its name.
-#[tactic(auto, using(crate::proofs::FaultAccumulation::noted_append))]
+/// Notes the faults of a class that follows others, which may have its name. Its methods have the index `by_name`.
+#[tactic(auto, using(type_check::proofs::Laws::noted_append))]
 fn next_class(
     alloc: Global,
     classes: &Classes,
     others: (usize, bool),
+    by_name: &HashMap<u32, usize>,
     next: &ClassDecl,
     first: &mut Option<ClassFault>,
 ) -> Result<(), AllocError>
+    requires { IsIndex (λ m. m.name.name.0) by_name.now next.now.methods }
     ensures { OnOk result (Notes first.old first.new
         (fault_if others.1 next.now.name.pos class_twice
         ++ (fault_if (others.0 == most_classes) next.now.name.pos limit ++ (vars_faults (map class_tree classes.now.list.now) variable_twice [] next.now.vars ++ (too_many most_variables next.now.vars
@@ -338,7 +341,7 @@ fn next_class(
     if others.0 == MOST_CLASSES {
         note(first, ClassFault::Limit { token });
     }
-    class(alloc, classes, next, first)
+    class(alloc, classes, by_name, next, first)
 }
 
 fn each_class(
@@ -351,7 +354,8 @@ fn each_class(
     let index = classes.index();
     for (i, next) in classes.list.iter().enumerate() {
         let again = index.is_before(i, next.name.name);
-        next_class(alloc, classes, (i, again), next, first)?;
+        let by_name = &classes.methods[i];
+        next_class(alloc, classes, (i, again), by_name, next, first)?;
     }
     Ok(())
 }

@@ -3,17 +3,9 @@
 //! Does not know: how a program runs.
 #![tactic(auto)]
 
-mod classes;
 mod declarations;
-mod expressions;
-mod fault;
-mod index;
-mod named;
 mod program;
-mod scope;
-mod sort;
-mod statements;
 pub mod theorems;
 
-pub use fault::ClassFault;
 pub use program::{Checked, check};
+pub use type_check::ClassFault;

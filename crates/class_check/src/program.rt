@@ -5,14 +5,14 @@ ghost use Rattle.pool_syntax.specs.Typing.{faults};
 ghost use Rattle.pool_grammar.specs.Grammatical.{IsGrammatical};
 ghost use Rattle.pool_syntax.specs.Spelled.{is_spelled};
 ghost use Rattle.class_check.specs.Least.{IsLeastFault};
-ghost use Rattle.class_check.specs.PairOf.{pair_of};
-ghost use Rattle.class_check.specs.declared.fault.ClassFault.{ClassFault as AFault};
+ghost use Rattle.type_check.specs.PairOf.{pair_of};
+ghost use Rattle.type_check.specs.declared.fault.ClassFault.{ClassFault as AFault};
 
 use crate::declarations::classes;
-use crate::fault::ClassFault;
 use pool_syntax::Program;
 use run_types::Names;
 use std::alloc::Global;
+use type_check::ClassFault;
 
 /// A program without class faults, and the table of its names and strings.
 #[derive(Clone, Copy)]

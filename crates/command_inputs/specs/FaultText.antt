@@ -5,8 +5,8 @@ use Rattle.pool_syntax.specs.declared.token.LexFault.{LexFault}
 use Rattle.pool_syntax.specs.declared.token.LexFault.TheVariants as Lex
 use Rattle.expression_parser.specs.declared.fault.SyntaxFault.{SyntaxFault}
 use Rattle.expression_parser.specs.declared.fault.SyntaxFault.TheVariants as Syntax
-use Rattle.class_check.specs.declared.fault.ClassFault.{ClassFault}
-use Rattle.class_check.specs.declared.fault.ClassFault.TheVariants as Class
+use Rattle.type_check.specs.declared.fault.ClassFault.{ClassFault}
+use Rattle.type_check.specs.declared.fault.ClassFault.TheVariants as Class
 use Rattle.placement_reader.specs.declared.fault.PlacementFault.{PlacementFault}
 use Rattle.placement_reader.specs.declared.fault.PlacementFault.TheVariants as Place
 use Rattle.schedule_reader.specs.declared.fault.ScheduleFault.{ScheduleFault}

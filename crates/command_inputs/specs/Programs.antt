@@ -16,7 +16,7 @@ pub use Rattle.pool_grammar.specs.Programs.{IsParsed, IsTextOf, IsTypedText}
 use Rattle.expression_parser.specs.declared.fault.SyntaxFault.{SyntaxFault}
 use Rattle.expression_parser.specs.declared.fault.SyntaxFault.TheVariants as Syntax
 use Rattle.class_check.specs.Least.{IsLeastFault}
-use Rattle.class_check.specs.PairOf.{pair_of}
+use Rattle.type_check.specs.PairOf.{pair_of}
 use Rattle.command_inputs.specs.declared.fault.Fault.{Fault}
 use Rattle.command_inputs.specs.declared.fault.Fault.TheVariants as F
 

@@ -1,11 +1,9 @@
 //! The next action of an object.
 ghost use Rattle.std.specs.Prelude.{◌≡◌, [], ◌∷◌, Option, Some, None, IsTrue, ℕ, ◌-◌, List, length, slice_get, true, not};
-ghost use Rattle.std.specs.List.{list_any};
 ghost use Rattle.pool_syntax.specs.TreeOf.{program_of};
 ghost use Rattle.pool_syntax.specs.Terms.{Statements, Store, ProgramTree};
 ghost use Rattle.pool_relation.specs.Reducible.{Choice};
 ghost use Rattle.pool_relation.specs.Action.{Object, action, redex_action, on_outcome, on_select, on_assignment};
-ghost use Rattle.run_types.specs.Values.{is_nil, not_bool, is_true};
 ghost use Rattle.stepper_terms.specs.Parts.{term_of, task as statement};
 ghost use Rattle.stepper_terms.specs.Reduced.{assigns, reduced, task_redex, last_redex, choices, temps_at};
 ghost use Rattle.run_types.specs.Operated.{outcome_of};
@@ -113,42 +111,33 @@ fn act_ready<'a>(
 }
 
 /// The action at a select with these guards: the first error that applies, or the select.
-#[tactic(auto, using(stepper_terms::proofs::Laws::nil_guard, stepper_terms::proofs::Laws::other_guard, stepper_terms::proofs::Laws::true_guard))]
+#[tactic(auto, using(stepper_terms::proofs::Laws::nil_guard, stepper_terms::proofs::Laws::other_guard, stepper_terms::proofs::Laws::true_guard, std::proofs::lemmas::List::drop_all))]
 fn act_select<'a>(guards: &[Guarded<'_>]) -> Act<'a>
     ensures gives { (x : Object) → on_select (choices guards.now) ≡ acted x [] [] (choices guards.now) result }
     ensures suits { (xs : List Activation) (n : Focus) → is_statement n ≡ true → keeps_temps n ≡ true → Suits xs n result }
 {
-    if any_nil(guards) {
+    let mut some_nil = false;
+    let mut some_not_bool = false;
+    let mut some_true = false;
+    for guarded in guards {
+        match guarded.guard.value {
+            Value::Nil => {
+                some_nil = true;
+                some_not_bool = true;
+            }
+            Value::Bool(truth) => some_true = some_true || truth,
+            _ => some_not_bool = true,
+        }
+    }
+    if some_nil {
         Act::Fault(Error::NilOperand)
-    } else if any_other(guards) {
+    } else if some_not_bool {
         Act::Stuck
-    } else if any_true(guards) {
+    } else if some_true {
         Act::Select
     } else {
         Act::Fault(Error::NoOpenGuard)
     }
-}
-
-fn any_nil(guards: &[Guarded<'_>]) -> bool
-    ensures { result ≡ list_any (λ g. is_nil g.guard.value) guards.now }
-{
-    guards.iter().any(|g| matches!(g.guard.value, Value::Nil))
-}
-
-fn any_other(guards: &[Guarded<'_>]) -> bool
-    ensures { result ≡ list_any (λ g. not_bool g.guard.value) guards.now }
-{
-    guards
-        .iter()
-        .any(|g| !matches!(g.guard.value, Value::Bool(_)))
-}
-
-fn any_true(guards: &[Guarded<'_>]) -> bool
-    ensures { result ≡ list_any (λ g. is_true g.guard.value) guards.now }
-{
-    guards
-        .iter()
-        .any(|g| matches!(g.guard.value, Value::Bool(true)))
 }
 
 /// The action at an assignment.

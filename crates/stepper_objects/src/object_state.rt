@@ -76,11 +76,7 @@ impl<'a> ObjectState<'a> {
                 caller,
                 args,
                 after,
-            } => {
-                self.work
-                    .serve(alloc, method, caller, args.values(), after)?;
-                Ok(())
-            }
+            } => self.work.serve(alloc, method, caller, args.values(), after),
             Change::Fault(error) => {
                 self.fault = Some(error);
                 Ok(())

@@ -1,8 +1,8 @@
 use Rattle.std.proofs.Common.{◌≡◌, [], take, drop, map}
 use Rattle.pool_syntax.specs.TreeOf.{class_tree}
 use Rattle.pool_syntax.specs.Typing.{classes_faults, faults}
-use Rattle.class_check.specs.Before.{names_before}
-use Rattle.class_check.specs.NotedFaults.{noted, found_of}
+use Rattle.type_check.specs.Before.{names_before}
+use Rattle.type_check.specs.NotedFaults.{noted, found_of}
 use Rattle.class_check.proofs.declarations.each_class.Given as goal
 
 -- noting the rest gives what noting all gives

@@ -1,7 +1,7 @@
 use Rattle.std.proofs.Common.{◌≡◌, ap, ◌∙◌, ◌==◌, length, take, get_or, arith}
 use Rattle.std.specs.List.{list_any}
 use Rattle.pool_syntax.specs.declared.tree.Method.{Method}
-use Rattle.class_check.specs.CheckerScopes.{scope_of}
+use Rattle.type_check.specs.CheckerScopes.{scope_of}
 use Rattle.class_check.proofs.DeclarationParts.{method_noted}
 use Rattle.class_check.proofs.declarations.methods.Goals as goal
 

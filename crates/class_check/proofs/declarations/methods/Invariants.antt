@@ -1,9 +1,9 @@
 use Rattle.std.proofs.Common.{◌≡◌, [], take, drop, map}
 use Rattle.pool_syntax.specs.TreeOf.{method_tree}
 use Rattle.pool_syntax.specs.Typing.{methods_faults}
-use Rattle.class_check.specs.Before.{names_before}
-use Rattle.class_check.specs.NotedFaults.{noted, found_of}
-use Rattle.class_check.specs.CheckerScopes.{scope_of}
+use Rattle.type_check.specs.Before.{names_before}
+use Rattle.type_check.specs.NotedFaults.{noted, found_of}
+use Rattle.type_check.specs.CheckerScopes.{scope_of}
 use Rattle.class_check.proofs.declarations.methods.Given as goal
 
 -- noting the rest gives what noting all gives

@@ -3,7 +3,7 @@ use Rattle.std.proofs.lemmas.List.{get_or_default}
 use Rattle.pool_syntax.specs.declared.tree.Var.{Var}
 use Rattle.run_types.specs.declared.types.Kind.TheVariants as K
 use Rattle.pool_syntax.specs.TreeOf.{class_tree}
-use Rattle.class_check.specs.CheckerScopes.{twice_number}
+use Rattle.class_check.specs.TwiceNumber.{twice_number}
 use Rattle.class_check.proofs.DeclarationParts.{variable_noted}
 use Rattle.class_check.proofs.declarations.variables.Goals as goal
 

@@ -1,9 +1,9 @@
 use Rattle.std.proofs.Common.{◌≡◌, [], take, drop, map}
 use Rattle.pool_syntax.specs.TreeOf.{class_tree}
 use Rattle.pool_syntax.specs.Typing.{vars_faults}
-use Rattle.class_check.specs.Before.{names_before}
-use Rattle.class_check.specs.NotedFaults.{noted, found_of}
-use Rattle.class_check.specs.CheckerScopes.{twice_number}
+use Rattle.type_check.specs.Before.{names_before}
+use Rattle.type_check.specs.NotedFaults.{noted, found_of}
+use Rattle.class_check.specs.TwiceNumber.{twice_number}
 use Rattle.class_check.proofs.declarations.variables.Given as goal
 
 -- noting the rest gives what noting all gives

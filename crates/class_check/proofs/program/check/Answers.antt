@@ -2,8 +2,8 @@ use Rattle.std.proofs.Common.{◌≡◌, sym, ap, subst, ◌∙◌, map, Some, N
 use Rattle.pool_syntax.specs.TreeOf.{class_tree, program_of}
 use Rattle.pool_syntax.specs.Typing.{faults}
 use Rattle.class_check.specs.Least.{IsLeastFault}
-use Rattle.class_check.specs.NotedFaults.{noted, found_of}
-use Rattle.class_check.specs.PairOf.{pair_of}
+use Rattle.type_check.specs.NotedFaults.{noted, found_of}
+use Rattle.type_check.specs.PairOf.{pair_of}
 use Rattle.class_check.proofs.LeastLaws.{least_noted, none_noted}
 use Rattle.class_check.proofs.program.check.Goals as goal
 

@@ -1,9 +1,0 @@
--- Lists of faults that are noted one after another.
-use Rattle.std.proofs.Common.{◌≡◌, refl, sym, ap, ◌∙◌, List, [], ◌∷◌, ◌++◌, Option, Some}
-use Rattle.pool_syntax.specs.Typing.{FaultAt}
-use Rattle.class_check.specs.declared.fault.ClassFault.{ClassFault}
-use Rattle.class_check.specs.NotedFaults.{noted, lower, Notes, found_of}
-
-pub noted_append : (first : Option FaultAt) (xs ys : List FaultAt) → noted first (xs ++ ys) ≡ noted (noted first xs) ys
-noted_append first [] ys = refl
-noted_append first (x ∷ xs) ys = noted_append (Some (lower first x)) xs ys

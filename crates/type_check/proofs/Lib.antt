@@ -1,0 +1,9 @@
+pub mod NameLookup
+pub mod FaultAccumulation
+pub mod OperandLimit
+pub mod Arguments
+pub mod ExpressionParts
+pub mod BeforeLaws
+pub mod StatementParts
+pub mod IndexLaws
+pub mod Laws
