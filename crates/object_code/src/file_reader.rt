@@ -3,7 +3,7 @@ ghost use Rattle.std.specs.Prelude.{◌≡◌, ◌+◌, ◌-◌, ◌<◌, ◌≤
 ghost use Rattle.text_scan.specs.Text.{Text};
 ghost use Rattle.run_types.specs.declared.types.NameId.{NameId as Name};
 ghost use Rattle.object_code.specs.declared.code_fault.CodeFault.TheVariants.{BadBytes};
-ghost use Rattle.object_code.specs.declared.code_fault.Unread.TheVariants.{BadByte};
+ghost use Rattle.object_code.specs.declared.code_fault.Unread.TheVariants.{BadByte, Memory};
 ghost use Rattle.code_semantics.specs.declared.unit.Instr.{Instr as Instruction};
 ghost use Rattle.object_code.specs.Decode.{Says, decode as decoded_bytes, read_alternative, read_class, read_code, read_exactly, read_file, read_instr, read_integer, read_kind, read_method};
 ghost use Rattle.object_code.specs.Decode.{read_name, read_operator, read_option, read_sent, read_text, read_truth};
@@ -273,11 +273,11 @@ fn take_code(alloc: Global, bytes: &[u8]) -> Result<(BodyCode, &[u8]), Unread>
 fn take_method(alloc: Global, bytes: &[u8]) -> Result<(MethodCode, MethodKinds, &[u8]), Unread>
     ensures { Gives (λ r. Got (r.0, r.1) r.2.now) result (read_method bytes.now) }
 {
-    let (name, rest) = take_name(bytes)?;
-    let (params, rest) = take_number(rest)?;
-    let (temps, rest) = take_list::<Kind>(alloc, rest)?;
-    let (result, rest) = take_result(alloc, rest)?;
-    let (body, rest) = take_code(alloc, rest)?;
+    let (name, rest) = taken!(take_name(bytes));
+    let (params, rest) = taken!(take_number(rest));
+    let (temps, rest) = taken!(take_list::<Kind>(alloc, rest));
+    let (result, rest) = taken!(take_result(alloc, rest));
+    let (body, rest) = taken!(take_code(alloc, rest));
     let method = MethodCode {
         name,
         params,
@@ -288,6 +288,26 @@ fn take_method(alloc: Global, bytes: &[u8]) -> Result<(MethodCode, MethodKinds, 
     Ok((method, MethodKinds { temps, result }, rest))
 }
 
+/// Appends an item to each of two lists.
+fn push_both<T: Drop, U: Drop>(
+    items: &mut List<T>,
+    others: &mut List<U>,
+    item: T,
+    other: U,
+) -> Result<(), Unread>
+    ensures item { OnOk result (items.new ≡ items.old ++ item ∷ []) }
+    ensures other { OnOk result (others.new ≡ others.old ++ other ∷ []) }
+    ensures err { IfErr result (λ e. e ≡ Memory) }
+{
+    match items.push(item) {
+        Ok(()) => match others.push(other) {
+            Ok(()) => Ok(()),
+            Err(_) => Err(Unread::Memory),
+        },
+        Err(_) => Err(Unread::Memory),
+    }
+}
+
 fn take_methods(
     alloc: Global,
     bytes: &[u8],
@@ -295,13 +315,12 @@ fn take_methods(
     ensures given { Gives (λ r. Got (pairs r.0 r.1) r.2.now) result (read_list read_method bytes.now) }
     ensures many { IfOk result (λ r. length r.0 ≡ length r.1) }
 {
-    let (count, mut rest) = take_number(bytes)?;
+    let (count, mut rest) = taken!(take_number(bytes));
     let mut methods = List::make(alloc);
     let mut kinds = List::make(alloc);
     for _ in 0..count {
-        let (method, method_kinds, behind) = take_method(alloc, rest)?;
-        methods.push(method)?;
-        kinds.push(method_kinds)?;
+        let (method, method_kinds, behind) = taken!(take_method(alloc, rest));
+        taken!(push_both(&mut methods, &mut kinds, method, method_kinds));
         rest = behind;
     }
     Ok((methods, kinds, rest))
@@ -310,10 +329,10 @@ fn take_methods(
 fn take_class(alloc: Global, bytes: &[u8]) -> Result<(ClassCode, ClassKinds, &[u8]), Unread>
     ensures { Gives (λ r. Got (r.0, r.1) r.2.now) result (read_class bytes.now) }
 {
-    let (name, rest) = take_name(bytes)?;
-    let (vars, rest) = take_list::<Kind>(alloc, rest)?;
-    let (methods, kinds, rest) = take_methods(alloc, rest)?;
-    let (body, rest) = take_code(alloc, rest)?;
+    let (name, rest) = taken!(take_name(bytes));
+    let (vars, rest) = taken!(take_list::<Kind>(alloc, rest));
+    let (methods, kinds, rest) = taken!(take_methods(alloc, rest));
+    let (body, rest) = taken!(take_code(alloc, rest));
     let class = ClassCode {
         name,
         vars: vars.items().len() as u32,
@@ -334,13 +353,12 @@ fn take_classes(
     ensures given { Gives (λ r. Got (pairs r.0 r.1) r.2.now) result (read_list read_class bytes.now) }
     ensures many { IfOk result (λ r. length r.0 ≡ length r.1) }
 {
-    let (count, mut rest) = take_number(bytes)?;
+    let (count, mut rest) = taken!(take_number(bytes));
     let mut classes = List::make(alloc);
     let mut kinds = List::make(alloc);
     for _ in 0..count {
-        let (class, class_kinds, behind) = take_class(alloc, rest)?;
-        classes.push(class)?;
-        kinds.push(class_kinds)?;
+        let (class, class_kinds, behind) = taken!(take_class(alloc, rest));
+        taken!(push_both(&mut classes, &mut kinds, class, class_kinds));
         rest = behind;
     }
     Ok((classes, kinds, rest))

@@ -3,6 +3,6 @@ use Rattle.object_code.proofs.file_reader.take_class.Goals as goal
 
 pub returns : goal.returns
 returns c =
-    class_taken c.args.bytes.now c.in_ok-name.rest.now c.in_ok-vars.rest.now c.in_ok-methods.rest.now c.in_ok-body.rest.now c.in_ok-name.name c.in_ok-vars.vars c.items.result.now
-    c.in_ok-methods.methods c.in_ok-methods.kinds c.in_ok-body.body c.in_ok-name.ensures c.in_ok-vars.ensures.given c.in_ok-methods.ensures.given c.in_ok-methods.ensures.many c.in_ok-body.ensures
+    class_taken c.args.bytes.now c.in-Ok.taken.1.now c.in-Ok-take_list.taken.1.now c.in-Ok-take_methods.taken.2.now c.in-Ok-take_code.taken.1.now c.in-Ok.taken.0 c.in-Ok-take_list.taken.0 c.items.result.now
+    c.in-Ok-take_methods.taken.0 c.in-Ok-take_methods.taken.1 c.in-Ok-take_code.taken.0 c.in-Ok.ensures c.in-Ok-take_list.ensures.given c.in-Ok-take_methods.ensures.given c.in-Ok-take_methods.ensures.many c.in-Ok-take_code.ensures
     c.items.ensures
