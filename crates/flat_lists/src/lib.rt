@@ -7,4 +7,4 @@ mod lists;
 mod packed;
 
 pub use lists::FlatLists;
-pub use packed::{is_packed, pack, packed_at, unpack};
+pub use packed::{is_packed, pack, unpack};

@@ -1,5 +1,5 @@
 //! Numbers in units of 16 bits. Most numbers take one unit.
-ghost use Rattle.std.specs.Prelude.{◌≡◌, ◌<◌, [], ◌∷◌, ◌++◌, length, slice_get, None, IfOk, IfSome, OnOk, true, false};
+ghost use Rattle.std.specs.Prelude.{◌≡◌, ◌<◌, [], ◌∷◌, ◌++◌, length, None, IfOk, IfSome, OnOk, true, false};
 ghost use Rattle.flat_lists.specs.Units.{numbers_of, units_of};
 
 use std::alloc::{AllocError, Global};
@@ -53,22 +53,6 @@ pub fn unpack(alloc: Global, units: &[u16]) -> Result<Vec<u32>, AllocError>
         rest = after;
     }
     Ok(numbers)
-}
-
-/// The number at this place of those that these units stand for. None if there are fewer.
-pub fn packed_at(units: &[u16], place: usize) -> Option<u32>
-    ensures { result ≡ slice_get (numbers_of units.now) place }
-{
-    let mut rest = units;
-    let mut left = place;
-    while let Some((number, after)) = first(rest) {
-        if left == 0 {
-            return Some(number);
-        }
-        left -= 1;
-        rest = after;
-    }
-    None
 }
 
 /// Whether these units stand for these numbers.

@@ -16,8 +16,7 @@ use crate::numbered::{Numbered, Queue};
 use crate::restored::{messages_at, objects_at};
 use crate::waiters::Waiters;
 use crate::writings::Writings;
-use flat_lists::{packed_at, unpack};
-use known_names::is_serving;
+use flat_lists::unpack;
 use mail_numbers::MailLists;
 use message_queue::MessageQueue;
 use object_moves::{Lead, MoveTable};
@@ -349,9 +348,6 @@ impl<'a> VisitedSet<'a> {
             → IsAwaited (kept_program self.now) e.next object e.configuration) }
     {
         let entry = self.rows.get(at);
-        if !self.is_serving(entry.objects, object) {
-            return false;
-        }
         match unpack(self.alloc, entry.objects) {
             Ok(numbers) => is_only_awaited(
                 &self.moves,
@@ -360,18 +356,6 @@ impl<'a> VisitedSet<'a> {
                 object,
             ),
             Err(_) => false,
-        }
-    }
-
-    /// Whether the object is at an `answer` or a `select`, where these units have the numbers of the objects' states. No proof
-    /// depends on it.
-    fn is_serving(&self, units: &[u16], object: u32) -> bool {
-        let Some(number) = packed_at(units, object as usize) else {
-            return false;
-        };
-        match self.moves.get(number) {
-            Some(thing) => is_serving(self.moves.program(), object, thing),
-            None => false,
         }
     }
 
