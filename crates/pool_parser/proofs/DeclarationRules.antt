@@ -18,7 +18,7 @@ use Rattle.expression_parser.proofs.Laws.{Clear, Misses, Begins-tree, Begins-eit
 use Rattle.expression_parser.proofs.Laws.{misses_inner, off, off_tree, clear_any, sign_there, sign_read, sign_missing, word_read, name_missing, off_sign, off_word}
 use Rattle.pool_parser.specs.Tails.{proper_part, result_part, body_part, declared_part}
 use Rattle.pool_parser.specs.Declarations.{ReadsDeclared}
-use Rattle.pool_parser.proofs.Bodies.{ends_statements, ends_value}
+use Rattle.statement_parser.proofs.Laws.{ends_statements, ends_value}
 use Rattle.pool_parser.proofs.Choices.{clear_through, misses_through}
 
 module _ {ts : List Tok} where

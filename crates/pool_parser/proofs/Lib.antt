@@ -2,8 +2,6 @@ pub mod DerivationLocality
 pub mod DeclarationExits
 pub mod Lists
 pub mod Choices
-pub mod SimpleStatements
-pub mod Bodies
 pub mod DeclarationRules
 pub mod TokenPrefix
 pub mod Results

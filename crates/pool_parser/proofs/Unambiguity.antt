@@ -20,8 +20,7 @@ use Rattle.expression_parser.proofs.Laws.{Clear, Misses, at_least, front_of, tok
 use Rattle.expression_parser.proofs.Laws.{operand_above, after_operand, prefix_begins_none, misses_postfix, misses_expr, after_sum, after_primary, closes_expression, after_arg, closes_args}
 use Rattle.pool_parser.specs.Tails.{proper_part, result_part}
 use Rattle.pool_parser.proofs.Choices.{misses_through}
-use Rattle.pool_parser.proofs.SimpleStatements.{misses_sending, misses_unbegun, behind_first, invoke_within, after_destination, assigned_rest}
-use Rattle.pool_parser.proofs.Bodies.{ends_value, ends_statements, after_these, after_guard, after_alt, ends_alt, ends_alts, after_stmt}
+use Rattle.statement_parser.proofs.Laws.{misses_sending, misses_unbegun, behind_first, invoke_within, after_destination, assigned_rest, ends_value, ends_statements, after_these, after_guard, after_alt, ends_alt, ends_alts, after_stmt}
 use Rattle.pool_parser.proofs.DeclarationRules.{closes_params, misses_param, ends_locals, no_local, after_vars, ends_methods, ends_classes, after_body, after_value, ends_post}
 
 -- two alternatives are never both taken

@@ -10,13 +10,13 @@ ghost use Rattle.pool_parser.specs.Tails.{proper_part, result_part, body_part};
 ghost use Rattle.pool_parser.specs.Declarations.{ParsesDeclared, ParsesProgram};
 ghost use Rattle.expression_parser.specs.Parses.{seen, Parses, ParsesRule, Advances, Stays};
 
-use crate::statements::statements;
 use crate::steps::read;
 use expression_parser::{
     Grouping, Source, SyntaxFault, expect, expect_name, grouped, is_at, kind, names, pushed,
 };
 use pool_syntax::{ClassDecl, Expr, Method, Named, Program, Sign, Stmt, Tok, Token, Var};
 use run_types::{Kind, List};
+use statement_parser::statements::statements;
 use std::alloc::Global;
 use text_scan::Keyword;
 

@@ -6,7 +6,6 @@
 mod declarations;
 mod nesting;
 mod parser;
-mod statements;
 mod steps;
 pub mod theorems;
 

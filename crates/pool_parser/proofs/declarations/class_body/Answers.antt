@@ -1,6 +1,6 @@
 use Rattle.std.proofs.Common.{refl}
 use Rattle.expression_parser.proofs.Laws.{passed_on, unexpected, reads_inner, reads_refused, word_read, word_there, word_missing}
-use Rattle.pool_parser.proofs.Bodies.{ends_statements}
+use Rattle.statement_parser.proofs.Laws.{ends_statements}
 use Rattle.pool_parser.proofs.declarations.class_body.Goals as goal
 
 pub returns-in-Err-clause-parses : goal.returns-in-Err-clause-parses

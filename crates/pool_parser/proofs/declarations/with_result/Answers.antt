@@ -1,6 +1,6 @@
 use Rattle.std.proofs.Common.{refl}
 use Rattle.expression_parser.proofs.Laws.{passed_on, unexpected, reads_inner, reads_refused, clear_any, sign_read, word_read, word_there, word_missing}
-use Rattle.pool_parser.proofs.Bodies.{ends_statements}
+use Rattle.statement_parser.proofs.Laws.{ends_statements}
 use Rattle.pool_parser.proofs.DeclarationRules.{ends_locals, after_value, ends_post}
 use Rattle.pool_parser.proofs.declarations.with_result.Goals as goal
 

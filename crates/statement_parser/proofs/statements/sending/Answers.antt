@@ -1,8 +1,8 @@
 use Rattle.std.proofs.Common.{rules}
 use Rattle.expression_parser.specs.Reads.{read, refused}
 use Rattle.expression_parser.proofs.Laws.{passed_on, unexpected}
-use Rattle.pool_parser.proofs.SimpleStatements.{sending_refused, sending_alone, sending_none, sending_missing, sending_read}
-use Rattle.pool_parser.proofs.statements.sending.Goals as goal
+use Rattle.statement_parser.proofs.SimpleStatements.{sending_refused, sending_alone, sending_none, sending_missing, sending_read}
+use Rattle.statement_parser.proofs.statements.sending.Goals as goal
 
 pub returns-in-Err-clause-parses : goal.returns-in-Err-clause-parses
 returns-in-Err-clause-parses c = passed_on (λ u. sending_refused) _ c.in-Err.ensures.parses

@@ -1,7 +1,7 @@
 use Rattle.expression_parser.specs.Reads.{read, refused}
 use Rattle.expression_parser.proofs.Laws.{passed_on}
-use Rattle.pool_parser.proofs.SimpleStatements.{answer_read}
-use Rattle.pool_parser.proofs.statements.answering.Goals as goal
+use Rattle.statement_parser.proofs.SimpleStatements.{answer_read}
+use Rattle.statement_parser.proofs.statements.answering.Goals as goal
 
 pub returns-in-Err-clause-parses : goal.returns-in-Err-clause-parses
 returns-in-Err-clause-parses c = passed_on (λ u. answer_read (refused u) c.requires.word) _ c.in-Err.ensures.parses

@@ -3,9 +3,9 @@ ghost use Rattle.std.specs.Prelude.{◌≡◌, ◌≢◌, ◌+◌, ◌<◌, ◌�
 ghost use Rattle.pool_syntax.specs.declared.tree.Named.{Named as OneName};
 ghost use Rattle.pool_grammar.specs.Rules.{stmts as stmts_phrase, more_stmts, stmt as stmt_phrase, alt as alt_phrase, more_alts};
 ghost use Rattle.pool_syntax.specs.TreeOf.{alternatives_of, expression_of, statement_of, statements_of};
-ghost use Rattle.pool_parser.specs.Alternatives.{alternative_of};
+ghost use Rattle.statement_parser.specs.Alternatives.{alternative_of};
 ghost use Rattle.expression_parser.specs.Reads.{begins_statement as token_begins_statement};
-ghost use Rattle.pool_parser.specs.Tails.{sending as sending_rule, else_part as else_rule, then_part as then_rule};
+ghost use Rattle.statement_parser.specs.Tails.{sending as sending_rule, else_part as else_rule, then_part as then_rule};
 ghost use Rattle.expression_parser.specs.Parses.{seen, Parses, ParsesRule, Advances, Stays};
 
 use crate::steps::read;

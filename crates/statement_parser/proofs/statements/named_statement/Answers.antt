@@ -2,8 +2,8 @@ use Rattle.std.proofs.Common.{rules}
 use Rattle.pool_syntax.specs.TreeOf.{statement_of}
 use Rattle.expression_parser.specs.Reads.{read, refused}
 use Rattle.expression_parser.proofs.Laws.{passed_on, relay}
-use Rattle.pool_parser.proofs.SimpleStatements.{named_read, assign_read}
-use Rattle.pool_parser.proofs.statements.named_statement.Goals as goal
+use Rattle.statement_parser.proofs.SimpleStatements.{named_read, assign_read}
+use Rattle.statement_parser.proofs.statements.named_statement.Goals as goal
 
 pub returns-in-Err-clause-parses : goal.returns-in-Err-clause-parses
 returns-in-Err-clause-parses c = passed_on (λ u. assign_read c.args.target (refused u) (c.requires.name, c.requires.place) (c.is_at.ensures.yes (search rules))) _ c.in-Err.ensures.parses

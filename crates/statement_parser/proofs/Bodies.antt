@@ -13,9 +13,9 @@ use Rattle.pool_grammar.specs.Derives.{Derives}
 use Rattle.expression_parser.specs.Reads.{Outcome, read, refused, Reads, ReadsPhrase, begins_statement, strength}
 use Rattle.expression_parser.proofs.Laws.{Clear, Misses, reads_tree, reads_first, reads_second, reads_inner, reads_refused, reads_last, put, put-id, clear_tree, clear_inner, clear_either, clear_word, clear_sign, misses_token, misses_inner, off, off_tree, clear_any, sign_read, word_read, word_missing}
 use Rattle.expression_parser.proofs.Laws.{off_sign, off_word}
-use Rattle.pool_parser.specs.Tails.{else_part, then_part}
-use Rattle.pool_parser.proofs.Choices.{not_empty, clear_full}
-use Rattle.pool_parser.proofs.SimpleStatements.{misses_stmt, behind_if, behind_while, behind_select}
+use Rattle.statement_parser.specs.Tails.{else_part, then_part}
+use Rattle.statement_parser.proofs.Choices.{not_empty, clear_full}
+use Rattle.statement_parser.proofs.SimpleStatements.{misses_stmt, behind_if, behind_while, behind_select}
 
 module _ {ts : List Tok} where
   pub ends_value : {w : Keyword} {p : Phrase} {f : ℕ → Rule (Tree p)} → strength (tok.Word w) ≡ 0 → Clear ts p (then (word w) f) expr

@@ -1,8 +1,8 @@
 use Rattle.std.proofs.Common.{arith, rules}
 use Rattle.expression_parser.specs.Reads.{read, refused}
 use Rattle.expression_parser.proofs.Laws.{passed_on}
-use Rattle.pool_parser.proofs.SimpleStatements.{text_read, write_read}
-use Rattle.pool_parser.proofs.statements.writing.Goals as goal
+use Rattle.statement_parser.proofs.SimpleStatements.{text_read, write_read}
+use Rattle.statement_parser.proofs.statements.writing.Goals as goal
 
 pub returns-in-Str-clause-parses : goal.returns-in-Str-clause-parses
 returns-in-Str-clause-parses c = text_read c.requires.word c.in-Str.ensures

@@ -5,7 +5,7 @@ use Rattle.pool_syntax.specs.TreeOf.{statements_of, alternatives_of}
 use Rattle.expression_parser.specs.Reads.{Outcome, ReadsPhrase}
 use Rattle.expression_parser.specs.Parses.{seen}
 use Rattle.expression_parser.proofs.Laws.{left_at}
-use Rattle.pool_parser.proofs.statements.+statements.Given as goal
+use Rattle.statement_parser.proofs.statements.+statements.Given as goal
 
 abbrev pub decreases-conditional : goal.decreases-conditional
 decreases-conditional l = left_at l.source.tokens.now l.at 0

@@ -14,8 +14,8 @@ use Rattle.pool_grammar.specs.Derives.{IsToken, Derives, Begins, none, past_toke
 use Rattle.expression_parser.specs.Reads.{GoesOn, Outcome, read, refused, Reads, ReadsPhrase, begins_statement}
 use Rattle.expression_parser.proofs.Laws.{Clear, Misses, begins_at_least, front_of, Derives-tree, Derives-inner, Begins-tree, Begins-inner, reads_tree, reads_token, reads_first, reads_second, reads_inner, reads_refused, reads_last, reads_factored, reads_regrouped, put, clear_tree, clear_sign}
 use Rattle.expression_parser.proofs.Laws.{misses_token, misses_either, misses_inner, off, invoke_postfix, invoke_begins, postfix_begins, clash, sign_read, sign_missing, word_read, name_missing, begins_primary, misses_postfix, misses_expr, variable_read, postfix_read, sends_end, not_invoke}
-use Rattle.pool_parser.specs.Tails.{sending, else_part}
-use Rattle.pool_parser.proofs.Choices.{reads_over, reads_under}
+use Rattle.statement_parser.specs.Tails.{sending, else_part}
+use Rattle.statement_parser.proofs.Choices.{reads_over, reads_under}
 
 statement_covers_primary : (t : Tok) → begins_statement t ≡ false → begins_primary t ≡ false
 statement_covers_primary (tok.Int z) h = h

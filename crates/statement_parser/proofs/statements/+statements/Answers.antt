@@ -1,13 +1,13 @@
 use Rattle.std.proofs.Common.{arith, rules, sym}
 use Rattle.pool_syntax.specs.TreeOf.{statement_of}
-use Rattle.pool_parser.specs.Alternatives.{alternative_of}
+use Rattle.statement_parser.specs.Alternatives.{alternative_of}
 use Rattle.expression_parser.specs.Reads.{read, refused}
 use Rattle.expression_parser.proofs.Laws.{passed_on, unexpected, relay, word_there, word_missing}
-use Rattle.pool_parser.proofs.SimpleStatements.{other_read, word_tells_none, other_tells_none}
-use Rattle.pool_parser.proofs.Bodies.{if_refused, then_missing, these_refused, these_read, else_refused, else_read, no_else, while_refused, do_missing, body_refused, body_read, when_missing, guard_refused, guard_read, answers_refused, answers_read, no_answers, work_read, select_refused, select_refused_later, select_read, alt_read, alt_refused, alts_end, stmts_read, stmts_refused, stmts_empty, statement_read, statement_refused, statements_end}
+use Rattle.statement_parser.proofs.SimpleStatements.{other_read, word_tells_none, other_tells_none}
+use Rattle.statement_parser.proofs.Bodies.{if_refused, then_missing, these_refused, these_read, else_refused, else_read, no_else, while_refused, do_missing, body_refused, body_read, when_missing, guard_refused, guard_read, answers_refused, answers_read, no_answers, work_read, select_refused, select_refused_later, select_read, alt_read, alt_refused, alts_end, stmts_read, stmts_refused, stmts_empty, statement_read, statement_refused, statements_end}
 use Rattle.pool_syntax.proofs.Laws.{if_tree, while_tree, select_tree}
-use Rattle.pool_parser.proofs.Lists.{statements-last, alternatives-last}
-use Rattle.pool_parser.proofs.statements.+statements.Goals as goal
+use Rattle.statement_parser.proofs.Lists.{statements-last, alternatives-last}
+use Rattle.statement_parser.proofs.statements.+statements.Goals as goal
 
 pub statement-returns-in_default : goal.statement-returns-in_default
 statement-returns-in_default t c =

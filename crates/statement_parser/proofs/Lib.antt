@@ -1,0 +1,5 @@
+pub mod Lists
+pub mod Choices
+pub mod SimpleStatements
+pub mod Bodies
+pub mod Laws
