@@ -28,9 +28,9 @@ use Rattle.rendezvous_protocol.specs.Packets.{numbered}
 use Rattle.mesh_routing.specs.Links.{LinksOf}
 use Rattle.node_state.specs.NodeOf.{NodeOf}
 use Rattle.node_state.specs.OfUnit.{IsOfUnit}
-use Rattle.pool_node.specs.Acts.{IsActOf}
-use Rattle.pool_node.specs.ActOf.{Act}
-use Rattle.pool_node.specs.ActOf as T
+use Rattle.node_turns.specs.Acts.{IsActOf}
+use Rattle.node_turns.specs.ActOf.{Act}
+use Rattle.node_turns.specs.ActOf as T
 use Rattle.pool_machine.specs.MachineOf.{numbered_link}
 use Rattle.pool_machine.specs.Parts.{NodesInvariant, NodesAreWellFormed, IsDid, IsNodeOf, machine_from}
 use Rattle.pool_machine.specs.DidOf.{Did}

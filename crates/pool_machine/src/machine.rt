@@ -10,7 +10,7 @@ ghost use Rattle.mesh_semantics.specs.Act.{act, is_quiet, object_count};
 ghost use Rattle.mesh_semantics.specs.Record.{last_place, root_node};
 ghost use Rattle.mesh_of_code.specs.Coded.{Placed, coded};
 ghost use Rattle.mesh_routing.specs.Links.{links_of};
-ghost use Rattle.pool_node.specs.Acts.{told_standing};
+ghost use Rattle.pool_node.specs.Standings.{told_standing};
 ghost use Rattle.pool_machine.specs.AnswerOf.{answer_of, answer_seen};
 ghost use Rattle.pool_machine.specs.MachineInvariant.{AreEmpty};
 ghost use Rattle.pool_machine.specs.OnWires.{AreMade, wires_in};

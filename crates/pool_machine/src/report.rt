@@ -10,7 +10,7 @@ ghost use Rattle.node_semantics.specs.Machine.{any_ready};
 ghost use Rattle.node_semantics.specs.Standings.{brings, machine_standing};
 ghost use Rattle.node_semantics.specs.StandsFor.{slot_in};
 ghost use Rattle.rendezvous_protocol.specs.Packets.{numbered};
-ghost use Rattle.pool_node.specs.Acts.{told_standing};
+ghost use Rattle.pool_node.specs.Standings.{told_standing};
 ghost use Rattle.pool_machine.specs.Parts.{NodesInvariant, AreOfUnit, IsMeshOf, machine_from};
 ghost use Rattle.pool_machine.specs.ObjectReport.{has_fault, is_brought, slot_class};
 

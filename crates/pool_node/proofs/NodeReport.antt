@@ -35,7 +35,7 @@ use Rattle.object_interp.specs.declared.types.Hand.TheVariants as H
 use Rattle.object_interp.specs.declared.types.Need.TheVariants as N
 use Rattle.object_interp.specs.Offers.{IsChoosing, hand_of}
 use Rattle.run_types.specs.declared.types.Value.{Value}
-use Rattle.pool_node.specs.Acts.{chosen_standing}
+use Rattle.pool_node.specs.Standings.{chosen_standing}
 use Rattle.node_semantics.specs.Node.{Slot, can_go, arrivals, message_count, name_at, placed, ready_slots}
 use Rattle.node_state.specs.declared.state.NodeParts.{NodeParts}
 use Rattle.node_state.specs.NodeOf.{NodeOf}
@@ -43,9 +43,7 @@ use Rattle.node_state.specs.OfUnit.{IsOfUnit}
 use Rattle.node_state.specs.Views.{NodeInvariant, tail_of, slots_by, slots_of, node_of, slot_at}
 use Rattle.node_state.specs.Bits.{first_bit, first_bit_from}
 use Rattle.node_state.proofs.Laws.{slots_length, slot_view, kind_seen}
-use Rattle.pool_node.proofs.HandKinds.{kind_halted, kind_send}
-use Rattle.pool_node.proofs.NodeLimits.{messages_seen}
-use Rattle.pool_node.proofs.TurnSelection.{bits_first}
+use Rattle.node_turns.proofs.Laws.{kind_halted, kind_send, messages_seen, bits_first}
 
 pub objects_are : (p : NodeParts) (n : NodeOf) → node_of p ≡ n → length p.heap.objects ≡ length n.state.slots
 objects_are p n e = sym (slots_length p.heap.objects p.outstanding p.faults p.goals p.mailbox.boxes) ∙ ap (λ (z : NodeOf). length z.state.slots) e

@@ -3,15 +3,10 @@
 //! Does not know: links and other nodes.
 #![tactic(auto)]
 
-mod acts;
-mod making;
 mod making_node;
 mod node;
 mod receipt;
-mod serving;
 mod standing;
-mod turn;
-mod types;
 
 pub use node::Node;
-pub use types::{Act, NodePlan, StepOutput, TurnOutcome};
+pub use node_turns::{Act, NodePlan, StepOutput, TurnOutcome};

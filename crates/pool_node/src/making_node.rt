@@ -7,10 +7,10 @@ ghost use Rattle.node_state.specs.OfUnit.{IsOfUnit};
 ghost use Rattle.node_state.specs.Views.{NodeInvariant, node_of, slots_of};
 ghost use Rattle.node_state.specs.Changes.{IsAdded};
 
-use crate::acts::name_of;
 use crate::receipt::class_named;
 use code_semantics::Unit;
 use node_state::{NodeParts, ReadySet};
+use node_turns::name_of;
 use rendezvous_protocol::Outstanding;
 use run_types::{Error, List};
 use std::alloc::{AllocError, Global};

@@ -11,19 +11,30 @@ ghost use Rattle.node_semantics.specs.Node.{deliver, receipt, receipt_act, messa
 ghost use Rattle.node_semantics.specs.Receives.{IsReceivable};
 ghost use Rattle.rendezvous_protocol.specs.Packets.{numbered};
 ghost use Rattle.node_state.specs.OfUnit.{IsOfPlacement, IsOfUnit};
-ghost use Rattle.pool_node.specs.ActOf.{act_of};
-ghost use Rattle.pool_node.specs.Acts.{IsActOf};
+ghost use Rattle.node_turns.specs.ActOf.{act_of};
+ghost use Rattle.node_turns.specs.Acts.{IsActOf};
 ghost use Rattle.node_state.specs.Views.{NodeInvariant, arrival_of, node_of, slots_of};
-ghost use Rattle.pool_node.specs.NodeSteps.{ReportsAct, IsSet, settled_number};
+ghost use Rattle.node_turns.specs.NodeSteps.{ReportsAct, IsSet};
+ghost use Rattle.pool_node.specs.SettledNumber.{settled_number};
 
-use crate::acts::{deliver_to, name_of, no_cell, settle_if_out, step};
-use crate::types::{Creating, NodePlan, StepOutput, TurnOutcome};
 use code_semantics::Unit;
 use mailbox::Message;
 use node_heap::HeapFull;
 use node_state::NodeParts;
+use node_turns::{
+    NodePlan, StepOutput, TurnOutcome, deliver_to, name_of, no_cell, settle_if_out, step,
+};
 use rendezvous_protocol::Packet;
 use run_types::{FullKind, Label, NameId, Placement, Value, What};
+
+/// A request of another node's object for a new object: its number, the object, and the class by index and name.
+#[derive(Clone, Copy)]
+struct Creating {
+    number: u32,
+    from: u32,
+    class: u32,
+    name: NameId,
+}
 
 /// The index of the first class of this name. None if there is none.
 pub(crate) fn class_named(unit: &Unit, class: NameId) -> Option<u32>

@@ -5,7 +5,7 @@ ghost use Rattle.std.specs.List.{list_any};
 ghost use Rattle.mesh_of_code.specs.Coded.{Placed, coded, kind_of};
 ghost use Rattle.node_semantics.specs.Node.{Slot, arrivals, name_at};
 ghost use Rattle.node_semantics.specs.Standings.{slot_standing};
-ghost use Rattle.pool_node.specs.Acts.{chosen_standing, told_standing};
+ghost use Rattle.pool_node.specs.Standings.{chosen_standing, told_standing};
 ghost use Rattle.code_semantics.specs.Kinds.{code_kind};
 ghost use Rattle.object_interp.specs.Offers.{IsChoosing};
 ghost use Rattle.node_heap.specs.Heaps.{object_at};

@@ -18,7 +18,7 @@ use Rattle.mesh_semantics.specs.Standing.{standing}
 use Rattle.run_types.proofs.Laws.{same_some}
 use Rattle.mesh_of_code.specs.Coded.{Placed, coded}
 use Rattle.mesh_of_code.specs.CodeInvariant.{IsOfCode}
-use Rattle.pool_node.specs.Acts.{told_standing}
+use Rattle.pool_node.specs.Standings.{told_standing}
 use Rattle.pool_machine.specs.Answers.{class_at, standing_at}
 use Rattle.wait_report.specs.declared.rows.ObjectRow.{ObjectRow}
 use Rattle.run_loop.specs.Reports.{row_in, standing_word}

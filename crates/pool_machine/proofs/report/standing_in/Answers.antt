@@ -1,6 +1,6 @@
 use Rattle.std.proofs.Common.{◌<◌, length, subst, sym, ◌∙◌}
 use Rattle.std.proofs.lemmas.Option.{slice_get_within}
-use Rattle.pool_node.specs.Acts.{told_standing}
+use Rattle.pool_node.specs.Standings.{told_standing}
 use Rattle.run_types.specs.ObjectNames.{node_of, slot_of}
 use Rattle.pool_machine.proofs.ReportedStandings.{Found, due_told, found_at, node_listed, none_on_mesh, on_way, slot_found, slot_told}
 use Rattle.pool_machine.proofs.report.standing_in.Goals as goal

@@ -1,6 +1,6 @@
 use Rattle.std.proofs.Common.{arith}
-use Rattle.pool_node.specs.ActOf.{act_of}
-use Rattle.pool_node.proofs.NodeAct.{made_acts}
+use Rattle.node_turns.specs.ActOf.{act_of}
+use Rattle.node_turns.proofs.Laws.{made_acts}
 use Rattle.pool_node.proofs.receipt.receipt_of.Goals as goal
 
 pub received-told-requires-clause-set : goal.received-told-requires-clause-set

@@ -5,7 +5,7 @@ use Rattle.mesh_semantics.specs.Delay.{Delay}
 use Rattle.mesh_of_code.specs.Coded.{Placed, coded}
 use Rattle.node_semantics.specs.Standings.{machine_standing}
 use Rattle.node_state.specs.NodeOf.{NodeOf}
-use Rattle.pool_node.specs.Acts.{told_standing}
+use Rattle.pool_node.specs.Standings.{told_standing}
 use Rattle.pool_machine.specs.MachineOf.{MachineOf}
 use Rattle.pool_machine.specs.Parts.{NodesInvariant, machine_from}
 use Rattle.pool_machine.specs.OnWires.{wires_in}
