@@ -1,8 +1,8 @@
 -- Nodes after one of them has changed.
-use Rattle.std.proofs.Common.{◌≡◌, ◌≢◌, ◌⊎◌, inl, inr, refl, sym, ap, subst, ◌∙◌, ℕ, zero, suc, ◌+◌, ◌<◌, ◌≤◌, List, [], ◌∷◌, length, map, set, get_or, Option, Some, None, true, arith}
+use Rattle.std.proofs.Common.{◌≡◌, ◌≢◌, ◌⊎◌, inl, inr, refl, sym, ap, subst, ◌∙◌, ℕ, zero, suc, ◌+◌, ◌<◌, ◌≤◌, List, [], ◌∷◌, map, set, Option, Some, None, true, arith}
 use Rattle.std.specs.Prelude.{slice_get}
 use Rattle.std.specs.Option.{option_map}
-use Rattle.std.proofs.lemmas.Option.{slice_get-map, slice_get-get_or}
+use Rattle.std.proofs.lemmas.Option.{slice_get-map}
 use Rattle.std.proofs.lemmas.List.{length-set}
 use Rattle.run_types.specs.declared.types.Placement.{Placement}
 use Rattle.code_semantics.specs.declared.unit.Unit.{Unit as Code}
@@ -14,13 +14,10 @@ use Rattle.mesh_routing.specs.Links.{LinksOf}
 use Rattle.node_state.specs.NodeOf.{NodeOf}
 use Rattle.node_state.specs.OfUnit.{IsOfPlacement, IsOfUnit}
 use Rattle.rendezvous_protocol.specs.declared.packet.Packet.{Packet}
-use Rattle.pool_machine.specs.Parts.{AreOfUnit, NodesAreWellFormed, EachCount, IsNodeOf}
+use Rattle.machine_network.specs.MachineOn.{AreOfUnit}
+use Rattle.pool_machine.specs.Parts.{NodesAreWellFormed, EachCount, IsNodeOf}
 
 module _ {X : Type 0} where
-  -- the element at an index
-  pub element : (xs : List X) (i : ℕ) (x : X) → i < length xs → x ≡ get_or xs i x → slice_get xs i ≡ Some x
-  element xs i x h e = slice_get-get_or xs i x h ∙ ap Some (sym e)
-
   pub set_here : (xs : List X) (i : ℕ) (x y : X) → slice_get xs i ≡ Some x → slice_get (set xs i y) i ≡ Some y
   set_here [] i x y h = absurd (cc)
   set_here (z ∷ xs) zero x y h = refl
@@ -50,9 +47,6 @@ pub made_set : (nodes : List NodeOf) (i : ℕ) (n n' : NodeOf) → slice_get nod
 made_set [] i n n' h e = refl
 made_set (x ∷ nodes) zero n n' h e = ap (λ (z : List ℕ). z ∷ map (λ n. n.state.made) nodes) (e ∙ ap (λ (y : NodeOf). y.state.made) (sym (same_some h)))
 made_set (x ∷ nodes) (suc i) n n' h e = ap (λ (z : List (List ℕ)). x.state.made ∷ z) (made_set nodes i n n' h e)
-
-pub state_there : (nodes : List NodeOf) (i : ℕ) (n : NodeOf) → slice_get nodes i ≡ Some n → slice_get (map (λ n. n.state) nodes) i ≡ Some n.state
-state_there nodes i n h = slice_get-map (λ (n : NodeOf). n.state) nodes i ∙ ap (option_map (λ (n : NodeOf). n.state)) h
 
 -- a node that is as it was but for its state
 pub node_kept : (u : Code) (l : Placement) (i : ℕ) (n n' : NodeOf) (x : NodeState Placed) → IsNodeOf u l i n → IsOfUnit u n' → n' ≡ record n { state = x; ready = n'.ready } → IsNodeOf u l i n'

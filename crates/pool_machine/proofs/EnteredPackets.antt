@@ -35,11 +35,11 @@ use Rattle.rendezvous_protocol.specs.declared.packet.Packet.{Packet}
 use Rattle.rendezvous_protocol.specs.Packets.{numbered}
 use Rattle.mesh_routing.specs.Links.{LinksOf}
 use Rattle.node_state.specs.NodeOf.{NodeOf}
-use Rattle.pool_machine.specs.MachineOf.{LinkWires, numbered_link, numbered_wires}
+use Rattle.machine_network.specs.LinkWires.{LinkWires, numbered_link, numbered_wires, entered_at, wire_of}
+use Rattle.machine_network.specs.MachineOn.{machine_on}
+use Rattle.machine_network.proofs.Laws.{list_numbered, kept_numbered}
 use Rattle.pool_machine.specs.Parts.{machine_from}
-use Rattle.pool_machine.specs.OnWires.{WiredMachineInvariant, EachEntered, entered_at, machine_on, wire_of}
-use Rattle.pool_machine.proofs.NumberedLinks.{list_numbered}
-use Rattle.pool_machine.proofs.NumberedWires.{kept_numbered}
+use Rattle.pool_machine.specs.OnWires.{WiredMachineInvariant, EachEntered}
 use Rattle.pool_machine.proofs.EventsOnWires.{kept_twice, move_same, turn_same}
 
 -- what an event hands out of a wire

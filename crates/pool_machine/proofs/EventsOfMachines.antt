@@ -20,9 +20,11 @@ use Rattle.mesh_of_code.specs.Coded.{Placed, coded}
 use Rattle.rendezvous_protocol.specs.declared.packet.Packet.{Packet}
 use Rattle.mesh_routing.specs.Links.{LinksOf}
 use Rattle.node_state.specs.NodeOf.{NodeOf}
-use Rattle.pool_machine.specs.MachineOf.{LinkWires, MachineOf}
+use Rattle.machine_network.specs.LinkWires.{LinkWires}
+use Rattle.machine_network.specs.MachineOn.{machine_on}
+use Rattle.pool_machine.specs.MachineOf.{MachineOf}
 use Rattle.pool_machine.specs.Parts.{NodesAreWellFormed}
-use Rattle.pool_machine.specs.OnWires.{WiredMachineInvariant, EachEntered, HaveWires, IsDidOn, EventMakes, machine_on}
+use Rattle.pool_machine.specs.OnWires.{WiredMachineInvariant, EachEntered, HaveWires, IsDidOn, EventMakes}
 use Rattle.pool_machine.specs.Answers.{IsOfMesh, IsOutcome, MachineRepresents}
 use Rattle.pool_machine.specs.SentPackets.{moved}
 use Rattle.pool_machine.specs.DidOf.{Did}

@@ -31,13 +31,14 @@ use Rattle.mesh_routing.specs.Links.{LinksOf}
 use Rattle.node_state.specs.NodeOf.{NodeOf}
 use Rattle.wire_link.specs.Wires.{arrived_of}
 use Rattle.wire_link.specs.declared.wire.Arrived.TheVariants as R
-use Rattle.pool_machine.specs.MachineOf.{LinkWires, numbered_wires}
+use Rattle.machine_network.specs.LinkWires.{LinkWires, numbered_wires, has_wire, wire_of}
+use Rattle.machine_network.specs.WireReports.{LinkWireReports}
+use Rattle.machine_network.specs.MachineOn.{machine_on}
+use Rattle.machine_network.proofs.Laws.{list_numbered, act_numbered, coming_numbered, kept_numbered, numbered_coming, numbered_result, put_numbered, take_numbered}
 use Rattle.pool_machine.specs.Parts.{IsDid, machine_from}
-use Rattle.pool_machine.specs.OnWires.{IsDidOn, LinkWireReports, EventMakes, has_wire, machine_on, wire_of}
+use Rattle.pool_machine.specs.OnWires.{IsDidOn, EventMakes}
 use Rattle.pool_machine.specs.DidOf.{Did}
 use Rattle.pool_machine.specs.DidOf as D
-use Rattle.pool_machine.proofs.NumberedLinks.{list_numbered}
-use Rattle.pool_machine.proofs.NumberedWires.{act_numbered, coming_numbered, kept_numbered, numbered_coming, numbered_result, put_numbered, take_numbered}
 
 -- a turn and a move of a link's head do not look at wires
 module _ {S : Type 0} (g : Language S) (l : Placement) (ws : KeptWires) where

@@ -1,4 +1,3 @@
-pub mod NumberedLinks
 pub mod PostedPackets
 pub mod ChangedNodes
 pub mod Searches
@@ -11,11 +10,8 @@ pub mod CountsOfMachines
 pub mod ReportedStandings
 pub mod StartOfMachines
 pub mod MadeNodes
-pub mod NumberedWires
 pub mod WithoutWires
 pub mod EventsOnWires
 pub mod EnteredPackets
-pub mod WireMap
 pub mod NewWires
-pub mod AllAcknowledged
 pub mod QuietMachines

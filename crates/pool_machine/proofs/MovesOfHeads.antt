@@ -34,11 +34,11 @@ use Rattle.node_state.specs.OfUnit.{IsOfUnit}
 use Rattle.node_turns.specs.Acts.{IsActOf}
 use Rattle.node_turns.specs.ActOf.{Act}
 use Rattle.node_turns.specs.ActOf as T
-use Rattle.pool_machine.specs.MachineOf.{numbered_link}
+use Rattle.machine_network.specs.LinkWires.{numbered_link}
+use Rattle.machine_network.proofs.Laws.{leaving_numbered, list_numbered, listed_elsewhere, listed_filled, listed_numbered, pushed_filled, state_there}
 use Rattle.pool_machine.specs.Parts.{NodesInvariant, NodesAreWellFormed, IsDid, machine_from}
 use Rattle.pool_machine.specs.DidOf as D
-use Rattle.pool_machine.proofs.NumberedLinks.{leaving_numbered, list_numbered, listed_elsewhere, listed_filled, listed_numbered, pushed_filled}
-use Rattle.pool_machine.proofs.ChangedNodes.{parts_moved, state_there}
+use Rattle.pool_machine.proofs.ChangedNodes.{parts_moved}
 use Rattle.pool_machine.proofs.PostedPackets.{each_on, few_objects, posted, within_room}
 use Rattle.pool_machine.proofs.TurnsOfNodes.{after_numbered, full_did, full_same, idle_same, is_node, line_did, line_of, links_after, node_after, node_here, parts_after}
 

@@ -19,9 +19,10 @@ use Rattle.mesh_of_code.specs.Coded.{Placed, coded}
 use Rattle.rendezvous_protocol.specs.declared.packet.Packet.{Packet}
 use Rattle.mesh_routing.specs.Links.{LinksOf}
 use Rattle.node_state.specs.NodeOf.{NodeOf}
-use Rattle.pool_machine.specs.MachineOf.{LinkWires, numbered_link, numbered_wires}
+use Rattle.machine_network.specs.LinkWires.{LinkWires, numbered_link, numbered_wires}
+use Rattle.machine_network.specs.MachineOn.{machine_on}
 use Rattle.pool_machine.specs.Parts.{NodesAreWellFormed}
-use Rattle.pool_machine.specs.OnWires.{WiredMachineInvariant, EventMakes, machine_on}
+use Rattle.pool_machine.specs.OnWires.{WiredMachineInvariant, EventMakes}
 use Rattle.pool_machine.specs.Answers.{IsOfMesh}
 use Rattle.pool_machine.specs.DidOf as D
 use Rattle.pool_machine.proofs.PostedPackets.{follows}

@@ -1,5 +1,5 @@
 -- The reports of a machine are true of each sound configuration that it represents.
-use Rattle.std.proofs.Common.{◌≡◌, ◌↔◌, refl, sym, ap, ap₂, subst, ◌∙◌, IsTrue, ℕ, zero, suc, ◌*◌, ◌<◌, ◌==◌, List, [], ◌∷◌, length, map, get_or, Option, Some, None, is_some, Bool, true, false, not, ◌&&◌, ◌||◌, cond, if◌then◌else◌, arith}
+use Rattle.std.proofs.Common.{◌≡◌, refl, sym, ap, subst, ◌∙◌, ℕ, zero, suc, ◌*◌, ◌<◌, ◌==◌, List, [], ◌∷◌, length, map, get_or, Option, Some, None, is_some, Bool, true, false, ◌||◌, cond, if◌then◌else◌, arith}
 use Rattle.std.specs.Prelude.{slice_get}
 use Rattle.std.specs.Option.{option_map, unwrap_or}
 use Rattle.std.specs.Ordering.{eq_by_cmp}
@@ -17,13 +17,13 @@ use Rattle.mesh_semantics.specs.Delay as Del
 use Rattle.mesh_semantics.specs.Act.{is_quiet, object_count}
 use Rattle.run_types.specs.Paths.{AreNeighbours, is_link, on_link}
 use Rattle.run_types.specs.Partial.{◌>>=◌}
-use Rattle.run_types.specs.Tables.{Each, Pair, has_some, list_at, no_entry_empty, pair_cmp}
+use Rattle.run_types.specs.Tables.{Each, Pair, list_at, pair_cmp}
 use Rattle.mesh_semantics.specs.Sound.{IsPlaced, IsSound}
 use Rattle.mesh_semantics.specs.Standing as S
 use Rattle.mesh_semantics.specs.Standing.{Standing, standing}
 use Rattle.run_types.proofs.Laws.{both, equals, same_some}
 use Rattle.node_semantics.specs.Node.{NodeState, Slot, name_at}
-use Rattle.node_semantics.specs.Machine.{any_faulted, any_ready, are_acknowledged, is_machine_quiet}
+use Rattle.node_semantics.specs.Machine.{any_faulted, is_machine_quiet}
 use Rattle.node_semantics.specs.Standings.{brings, is_on_way, machine_standing, slot_standing, standing_in}
 use Rattle.node_semantics.specs.StandsFor.{AtName, MachineStandsFor, packets, slot_at, slot_in}
 use Rattle.node_semantics.specs.WiresStandFor.{StandsFor}
@@ -35,14 +35,13 @@ use Rattle.rendezvous_protocol.specs.declared.packet.Packet.{Packet}
 use Rattle.rendezvous_protocol.specs.Packets.{numbered}
 use Rattle.mesh_routing.specs.Links.{LinksOf}
 use Rattle.node_state.specs.NodeOf.{NodeOf}
-use Rattle.pool_machine.specs.MachineOf.{LinkWires, numbered_link, numbered_wires}
-use Rattle.pool_machine.specs.Parts.{NodesInvariant, AreOfUnit, NodesAreWellFormed, machine_from}
-use Rattle.pool_machine.specs.OnWires.{machine_on}
+use Rattle.machine_network.specs.LinkWires.{LinkWires, numbered_link, numbered_wires}
+use Rattle.machine_network.specs.MachineOn.{AreOfUnit, machine_on}
+use Rattle.machine_network.proofs.Laws.{list_numbered, state_there, node_behind}
+use Rattle.pool_machine.specs.Parts.{NodesInvariant, NodesAreWellFormed, machine_from}
 use Rattle.pool_machine.specs.ObjectReport.{is_brought, slot_class}
 use Rattle.pool_machine.specs.Answers.{class_at, standing_at}
-use Rattle.pool_machine.proofs.NumberedLinks.{any_filled, list_numbered}
-use Rattle.pool_machine.proofs.ChangedNodes.{state_there}
-use Rattle.pool_machine.proofs.Searches.{found_none, node_behind}
+use Rattle.pool_machine.proofs.Searches.{found_none}
 use Rattle.pool_machine.proofs.WithoutWires.{stands_rewired}
 
 -- a name's slot
@@ -123,33 +122,7 @@ fails_at b k (z ∷ ls) (suc i) e own at h = by (is_link k.0 k.1 z.0) h (fails_a
     by true g r = r (neither (b z.1) (list_any b (on_link ls k)) g).1
     by false g r = r g
 
--- quiet, by what nodes, links and wires tell
-module _ (u : Code) (nodes : List NodeOf) (links : List (Pair × List Packet)) (filled : no_entry_empty links ≡ true) (ws : Option LinkWires) where
-  quiet_told : (empty acked ready : Bool) → (IsTrue empty ↔ (links ≡ [])) → acked ≡ are_acknowledged (option_map numbered_wires ws)
-      → ready ≡ any_ready (coded u) 0 (map (λ n. n.state) nodes) → (empty && (acked && not ready)) ≡ is_machine_quiet (coded u) (machine_on nodes links ws)
-  quiet_told empty acked ready iff a r =
-      ap₂ (λ x y. x && (y && not ready)) same a ∙ ap (λ z. not (list_any (λ (e : Pair × List NumberedPacket). has_some e.1) (map numbered_link links)) && (are_acknowledged (option_map numbered_wires ws) && not z)) r
-    where
-      by : (b : Bool) → empty ≡ b → (es : List (Pair × List Packet)) → links ≡ es → b ≡ not (has_some es)
-      by true e [] i = refl
-      by false e [] i = let t : empty ≡ true = iff.1 i in sym e ∙ t
-      by true e (x ∷ es) i = absurd (let z : [] ≡ x ∷ es = sym (iff.0 e) ∙ i in cc)
-      by false e (x ∷ es) i = refl
-
-      same : empty ≡ not (list_any (λ (e : Pair × List NumberedPacket). has_some e.1) (map numbered_link links))
-      same = by empty refl links refl ∙ ap not (sym (any_filled links filled))
-
-  grouped : (a b r : Bool) → ((a && b) && r) ≡ (a && (b && r))
-  grouped true b r = refl
-  grouped false b r = refl
-
-  -- what is known of links and wires together
-  pub settled_told : (empty settled ready : Bool) → (IsTrue empty ↔ (links ≡ [])) → settled ≡ (empty && are_acknowledged (option_map numbered_wires ws))
-      → ready ≡ any_ready (coded u) 0 (map (λ n. n.state) nodes) → (settled && not ready) ≡ is_machine_quiet (coded u) (machine_on nodes links ws)
-  settled_told empty settled ready iff e r =
-      ap (λ b. b && not ready) e ∙ grouped empty (are_acknowledged (option_map numbered_wires ws)) (not ready) ∙ quiet_told empty (are_acknowledged (option_map numbered_wires ws)) ready iff refl r
-
--- and of the configuration that they stand for
+-- quiet, by the configuration that nodes, links and wires stand for
 pub quiet_is : (u : Code) (l : Placement) (nodes : List NodeOf) (k : LinksOf Packet) (parts : NodesAreWellFormed u l nodes k) (ws : Option LinkWires) (c : Config Placed) (d : Delay)
     → IsSound (coded u) (IsOfCode u) l c d → StandsFor (coded u) l (machine_on nodes k.links ws) c d → is_machine_quiet (coded u) (machine_on nodes k.links ws) ≡ is_quiet (coded u) c d
 quiet_is u l nodes k parts ws c d sound st =

@@ -25,9 +25,10 @@ use Rattle.rendezvous_protocol.specs.declared.packet.Packet.{Packet}
 use Rattle.mesh_routing.specs.Links.{LinksOf}
 use Rattle.node_state.specs.NodeOf.{NodeOf}
 use Rattle.node_state.specs.OfUnit.{IsOfUnit}
-use Rattle.pool_machine.specs.MachineOf.{LinkWires, numbered_link}
+use Rattle.machine_network.specs.LinkWires.{LinkWires, numbered_link}
+use Rattle.machine_network.specs.MachineOn.{machine_on}
 use Rattle.pool_machine.specs.Parts.{NodesAreWellFormed, EachCount, machine_from}
-use Rattle.pool_machine.specs.OnWires.{AreMade, WiredMachineInvariant, EachEntered, machine_on}
+use Rattle.pool_machine.specs.OnWires.{AreMade, WiredMachineInvariant, EachEntered}
 use Rattle.pool_machine.specs.SentPackets.{nothing_sent}
 use Rattle.pool_machine.specs.MachineInvariant.{AreEmpty}
 use Rattle.pool_machine.proofs.NewWires.{made_entered, made_stand, made_there, sound_start}

@@ -31,12 +31,12 @@ use Rattle.node_state.specs.OfUnit.{IsOfUnit}
 use Rattle.node_turns.specs.Acts.{IsActOf}
 use Rattle.node_turns.specs.ActOf.{Act}
 use Rattle.node_turns.specs.ActOf as T
-use Rattle.pool_machine.specs.MachineOf.{numbered_link}
+use Rattle.machine_network.specs.LinkWires.{numbered_link}
+use Rattle.machine_network.proofs.Laws.{leaving_numbered, push_numbered, pushed_filled, state_there}
 use Rattle.pool_machine.specs.Parts.{NodesInvariant, NodesAreWellFormed, IsDid, IsNodeOf, machine_from}
 use Rattle.pool_machine.specs.DidOf.{Did}
 use Rattle.pool_machine.specs.DidOf as D
-use Rattle.pool_machine.proofs.NumberedLinks.{leaving_numbered, push_numbered, pushed_filled}
-use Rattle.pool_machine.proofs.ChangedNodes.{node_kept, parts_changed, parts_moved, set_itself, state_there, states_set}
+use Rattle.pool_machine.proofs.ChangedNodes.{node_kept, parts_changed, parts_moved, set_itself, states_set}
 use Rattle.pool_machine.proofs.PostedPackets.{posted, turn_room}
 
 -- a line of a node: its packet, and the node after it

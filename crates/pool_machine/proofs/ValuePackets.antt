@@ -3,8 +3,8 @@ use Rattle.std.proofs.Common.{◌≡◌, refl, ℕ, ◌≤◌, List, [], ◌∷�
 use Rattle.run_types.specs.Tables.{Pair, list_at, pair_cmp}
 use Rattle.run_types.specs.LinkTables.{leaving}
 use Rattle.rendezvous_protocol.specs.declared.packet.Packet.{Packet}
+use Rattle.machine_network.proofs.Laws.{list_within}
 use Rattle.pool_machine.specs.ObjectReport.{is_brought}
-use Rattle.pool_machine.proofs.NumberedLinks.{list_within}
 
 none_in : (o : ℕ) (xs : List Packet) → length xs ≤ 0 → is_brought o xs ≡ false
 none_in o [] h = refl

@@ -16,9 +16,10 @@ use Rattle.mesh_of_code.specs.Coded.{coded}
 use Rattle.rendezvous_protocol.specs.declared.packet.Packet.{Packet}
 use Rattle.mesh_routing.specs.Links.{LinksOf}
 use Rattle.node_state.specs.NodeOf.{NodeOf}
-use Rattle.pool_machine.specs.MachineOf.{LinkWires}
+use Rattle.machine_network.specs.LinkWires.{LinkWires}
+use Rattle.machine_network.specs.MachineOn.{machine_on}
 use Rattle.pool_machine.specs.Parts.{NodesInvariant, machine_from}
-use Rattle.pool_machine.specs.OnWires.{WiredMachineInvariant, machine_on}
+use Rattle.pool_machine.specs.OnWires.{WiredMachineInvariant}
 
 -- with other wires on both sides
 module _ {S : Type 0} (g : Language S) (l : Placement) (c : Config S) (d : Delay) (ws : Option Wires) where

@@ -5,9 +5,11 @@ use Rattle.code_semantics.specs.declared.unit.Unit.{Unit as Code}
 use Rattle.mesh_of_code.specs.Coded.{coded}
 use Rattle.node_semantics.specs.Machine.{empty_node, is_machine_quiet}
 use Rattle.node_state.specs.NodeOf.{NodeOf}
+use Rattle.machine_network.specs.LinkWires.{wires_in}
+use Rattle.machine_network.specs.MachineOn.{machine_on}
 use Rattle.pool_machine.specs.MachineOf.{MachineOf}
 use Rattle.pool_machine.specs.Parts.{EachCount, IsMeshOf, IsNodeOf}
-use Rattle.pool_machine.specs.OnWires.{WiredMachineInvariant, EachEntered, machine_on, wires_in}
+use Rattle.pool_machine.specs.OnWires.{WiredMachineInvariant, EachEntered}
 use Rattle.pool_machine.specs.declared.machine.Machine.TheInside.{Inside}
 
 -- a node without objects

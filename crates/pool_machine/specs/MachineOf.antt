@@ -8,15 +8,10 @@ use Rattle.run_types.specs.Tables.{Pair}
 use Rattle.mesh_semantics.specs.Wire.{Frame}
 use Rattle.mesh_semantics.specs.KeptWire.{KeptWire}
 use Rattle.mesh_of_code.specs.Coded.{Placed}
-use Rattle.mesh_semantics.specs.NumberedPackets.{NumberedPacket}
-use Rattle.node_semantics.specs.Machine.{KeptWires, Machine}
+use Rattle.node_semantics.specs.Machine.{Machine}
 use Rattle.rendezvous_protocol.specs.declared.packet.Packet.{Packet}
-use Rattle.rendezvous_protocol.specs.Packets.{numbered}
 use Rattle.node_state.specs.NodeOf.{NodeOf}
-
--- the stored states of wires, by the ends of their links
-abbrev pub LinkWires : Type 0
-LinkWires = List (Pair × KeptWire Packet)
+use Rattle.machine_network.specs.LinkWires.{LinkWires, numbered_link, numbered_wires}
 
 pub record MachineOf : Type 0 where
   pub unit : Code
@@ -45,20 +40,6 @@ machine_code u l n p =
     (coded× (coded_option (coded_list (coded× (coded× coded_ℕ coded_ℕ) (wire_code p)))) (coded× coded_ℕ (coded× coded_ℕ coded_ℕ)))))))
     (λ m. (m.unit, (m.placement, (m.nodes, (m.links, (m.wires, (m.done, (m.moves, m.transitions))))))))
     (λ t. record { unit = t.0; placement = t.1.0; nodes = t.1.1.0; links = t.1.1.1.0; wires = t.1.1.1.1.0; done = t.1.1.1.1.1.0; moves = t.1.1.1.1.1.1.0; transitions = t.1.1.1.1.1.1.1 }) (λ _. refl)
-
--- the packets of a link with their numbers
-abbrev pub numbered_link : Pair × List Packet → Pair × List NumberedPacket
-numbered_link e = (e.0, map numbered e.1)
-
--- the stored states of wires, with numbers beside the packets
-abbrev pub numbered_frame : Frame Packet → Frame NumberedPacket
-numbered_frame f = (f.0, numbered f.1)
-
-abbrev pub numbered_wire : KeptWire Packet → KeptWire NumberedPacket
-numbered_wire v = record { handed = v.handed; acked = v.acked; next = v.next; sent = v.sent; copies = map numbered v.copies; frames = map numbered_frame v.frames; acks = v.acks }
-
-abbrev pub numbered_wires : LinkWires → KeptWires
-numbered_wires ws = map (λ e. (e.0, numbered_wire e.1)) ws
 
 -- the machine of the definition of nodes and links, with or without wires
 abbrev pub machine_of : MachineOf → Machine Placed

@@ -19,7 +19,7 @@ use Rattle.mesh_routing.specs.Links.{LinksOf}
 use Rattle.mesh_routing.specs.declared.mesh.Mesh.{Mesh}
 use Rattle.node_state.specs.NodeOf.{NodeOf}
 use Rattle.node_state.specs.OfUnit.{IsOfPlacement, IsOfUnit}
-use Rattle.pool_machine.specs.MachineOf.{numbered_link}
+use Rattle.machine_network.specs.LinkWires.{numbered_link}
 use Rattle.pool_machine.specs.DidOf.{Did}
 use Rattle.pool_machine.specs.DidOf as D
 
@@ -32,10 +32,6 @@ pub record IsNodeOf (u : Code) (l : Placement) (i : ℕ) (n : NodeOf) : Type 0 w
   pub id : n.id ≡ i
   pub of_unit : IsOfUnit u n
   pub of_placement : IsOfPlacement u l n
-
--- nodes of the unit, numbered from 0
-abbrev pub AreOfUnit : Code → List NodeOf → Type 0
-AreOfUnit u nodes = (i : ℕ) (n : NodeOf) → slice_get nodes i ≡ Some n → (n.id ≡ i) × IsOfUnit u n
 
 -- The nodes and links are those of the unit and the placement.
 pub record NodesAreWellFormed (u : Code) (l : Placement) (nodes : List NodeOf) (k : LinksOf Packet) : Type 0 where

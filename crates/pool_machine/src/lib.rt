@@ -6,13 +6,11 @@
 mod counts;
 mod machine;
 mod moves;
-mod quiet;
 mod report;
 mod step;
 mod turns;
 mod types;
 mod wired;
-mod wires;
 
 pub use machine::Machine;
 pub use pool_node::StepOutput;

@@ -1,17 +1,16 @@
 //! The reports of a machine on its nodes and objects.
-ghost use Rattle.std.specs.Prelude.{◌≡◌, ◌<◌, ◌*◌, ◌↔◌, ℕ, Bool, true, false, map, is_some, slice_get, IsTrue};
+ghost use Rattle.std.specs.Prelude.{◌≡◌, ◌<◌, ◌*◌, ℕ, true, false, map, is_some, slice_get};
 ghost use Rattle.std.specs.Option.{option_map};
-ghost use Rattle.std.specs.List.{list_any};
 ghost use Rattle.run_types.specs.Tables.{list_at, pair_cmp};
 ghost use Rattle.run_types.specs.Paths.{AreNeighbours};
 ghost use Rattle.run_types.specs.ObjectNames.{node_of, slot_of};
 ghost use Rattle.mesh_of_code.specs.Coded.{coded};
-ghost use Rattle.node_semantics.specs.Machine.{any_ready};
 ghost use Rattle.node_semantics.specs.Standings.{brings, machine_standing};
 ghost use Rattle.node_semantics.specs.StandsFor.{slot_in};
 ghost use Rattle.rendezvous_protocol.specs.Packets.{numbered};
 ghost use Rattle.pool_node.specs.Standings.{told_standing};
-ghost use Rattle.pool_machine.specs.Parts.{NodesInvariant, AreOfUnit, IsMeshOf, machine_from};
+ghost use Rattle.machine_network.specs.MachineOn.{AreOfUnit};
+ghost use Rattle.pool_machine.specs.Parts.{NodesInvariant, IsMeshOf, machine_from};
 ghost use Rattle.pool_machine.specs.ObjectReport.{has_fault, is_brought, slot_class};
 
 use code_semantics::Unit;
@@ -19,19 +18,6 @@ use mesh_routing::{Links, Mesh};
 use pool_node::Node;
 use rendezvous_protocol::Packet;
 use run_types::{NameId, Placement, Standing, node_of, slot_of};
-
-/// Reports whether an object of some node can step.
-pub(crate) fn can_step(unit: &Unit, nodes: &[Node]) -> bool
-    requires { AreOfUnit unit.now nodes.now }
-    ensures { result ≡ any_ready (coded unit.now) 0 (map (λ n. n.state) nodes.now) }
-{
-    for node in nodes {
-        if node.is_ready(unit) {
-            return true;
-        }
-    }
-    false
-}
 
 /// Reports whether an object has met a run-time error.
 pub(crate) fn has_faulted(nodes: &[Node]) -> bool

@@ -1,15 +1,16 @@
 //! The step of an event on nodes, links and wires.
 ghost use Rattle.std.specs.Prelude.{◌≡◌, ◌<◌, ◌≤◌, ◌+◌, ◌-◌, ◌^◌, ℕ, is_some};
+ghost use Rattle.machine_network.specs.LinkWires.{wires_in};
 ghost use Rattle.pool_machine.specs.DidOf.{did_of};
 ghost use Rattle.pool_machine.specs.Answers.{IsOfMesh, IsServed};
 ghost use Rattle.pool_machine.specs.Parts.{NodesAreWellFormed, EachCount};
-ghost use Rattle.pool_machine.specs.OnWires.{WiredMachineInvariant, EachEntered, HaveWires, EventMakes, wires_in};
+ghost use Rattle.pool_machine.specs.OnWires.{WiredMachineInvariant, EachEntered, HaveWires, EventMakes};
 
 use crate::moves::move_link;
 use crate::turns::turn;
-use crate::types::{Limit, Network, Plan};
+use crate::types::{Limit, Plan};
 use crate::wired::move_on_wire;
-use crate::wires::act_at;
+use machine_network::{Network, act_at};
 use pool_node::{Node, StepOutput};
 use run_types::{Event, LinkId};
 

@@ -1,8 +1,5 @@
 //! The parts of a machine, its outcomes and its errors.
-use crate::wires::Wires;
 use code_semantics::Unit;
-use mesh_routing::Links;
-use rendezvous_protocol::Packet;
 use run_types::{FullKind, Line, Placement};
 use table_routing::Table;
 
@@ -12,13 +9,6 @@ pub(crate) struct Plan<'a> {
     pub unit: &'a Unit,
     pub placement: &'a Placement,
     pub table: Table<'a>,
-}
-
-/// What is between the nodes: the packets on the links, and the wires, if links are wires.
-#[derive(Drop)]
-pub(crate) struct Network {
-    pub links: Links<Packet>,
-    pub wires: Option<Wires>,
 }
 
 /// The reason that a machine was not made: memory ran out.

@@ -5,14 +5,15 @@ ghost use Rattle.run_types.specs.Tables.{Pair};
 ghost use Rattle.mesh_semantics.specs.KeptWire.{kept_coming};
 ghost use Rattle.mesh_of_code.specs.Coded.{coded};
 ghost use Rattle.node_semantics.specs.Machine.{kept_at, kept_move};
+ghost use Rattle.machine_network.specs.LinkWires.{numbered_wires, has_wire};
+ghost use Rattle.machine_network.specs.MachineOn.{machine_on};
 ghost use Rattle.pool_machine.specs.DidOf.{did_of};
-ghost use Rattle.pool_machine.specs.MachineOf.{numbered_wires};
 ghost use Rattle.pool_machine.specs.Parts.{NodesInvariant, NodesAreWellFormed};
-ghost use Rattle.pool_machine.specs.OnWires.{IsDidOn, has_wire, machine_on};
+ghost use Rattle.pool_machine.specs.OnWires.{IsDidOn};
 
 use crate::moves::move_link;
 use crate::types::{Limit, Plan};
-use crate::wires::Wires;
+use machine_network::Wires;
 use mesh_routing::Links;
 use pool_node::{Node, StepOutput};
 use rendezvous_protocol::Packet;

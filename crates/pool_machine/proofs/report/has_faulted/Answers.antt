@@ -3,8 +3,8 @@ use Rattle.std.specs.List.{list_any}
 use Rattle.std.proofs.lemmas.Option.{slice_get_within}
 use Rattle.mesh_of_code.specs.Coded.{Placed}
 use Rattle.node_semantics.specs.Node.{NodeState, Slot}
-use Rattle.pool_machine.proofs.ChangedNodes.{element, state_there}
-use Rattle.pool_machine.proofs.Searches.{found_none, found_one, node_behind, one_further}
+use Rattle.machine_network.proofs.Laws.{element, state_there, node_behind, one_further}
+use Rattle.pool_machine.proofs.Searches.{found_none, found_one}
 use Rattle.pool_machine.proofs.report.has_faulted.Goals as goal
 
 pub returns-then-any_faulted : goal.returns-then-any_faulted

@@ -5,8 +5,8 @@ use Rattle.run_types.specs.Tables.{list_at, pair_cmp}
 use Rattle.node_semantics.specs.Standings.{brings}
 use Rattle.rendezvous_protocol.specs.declared.packet.Packet.{Packet}
 use Rattle.rendezvous_protocol.specs.Packets.{numbered}
-use Rattle.pool_machine.proofs.NumberedLinks.{list_within}
-use Rattle.pool_machine.proofs.Searches.{ends_at, found_one, none_before, one_further}
+use Rattle.machine_network.proofs.Laws.{list_within, one_further}
+use Rattle.pool_machine.proofs.Searches.{ends_at, found_one, none_before}
 use Rattle.pool_machine.proofs.report.link_brings.Goals as goal
 
 pub returns-in_default : goal.returns-in_default

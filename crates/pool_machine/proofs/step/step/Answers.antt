@@ -2,10 +2,11 @@ use Rattle.std.proofs.Common.{◌≤◌, ◌<◌, refl, ap, sym, subst, Some, is
 use Rattle.mesh_semantics.specs.KeptWire.{kept_act}
 use Rattle.run_types.specs.Tables.{Pair, list_at, pair_cmp}
 use Rattle.run_types.specs.declared.types.Event.TheVariants as Ev
+use Rattle.machine_network.specs.LinkWires.{wire_of, wires_in}
 use Rattle.pool_machine.specs.DidOf as D
 use Rattle.pool_machine.specs.DidOf.{did_of}
 use Rattle.pool_machine.specs.Answers.{IsOfMesh, IsServed}
-use Rattle.pool_machine.specs.OnWires.{WiredMachineInvariant, EachEntered, HaveWires, EventMakes, wire_of, wires_in}
+use Rattle.pool_machine.specs.OnWires.{WiredMachineInvariant, EachEntered, HaveWires, EventMakes}
 use Rattle.pool_machine.proofs.ChangedNodes.{counts_more, counts_same}
 use Rattle.pool_machine.proofs.EnteredPackets.{sent_within}
 use Rattle.pool_machine.proofs.EventsOnWires.{move_plain, told_stays, told_wired, turn_wired}

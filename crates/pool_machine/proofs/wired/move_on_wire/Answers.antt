@@ -5,10 +5,9 @@ use Rattle.std.specs.BTreeMap.{is_at}
 use Rattle.mesh_semantics.specs.KeptWire.{kept_take}
 use Rattle.run_types.specs.Tables.{Pair, pair_cmp}
 use Rattle.wire_link.specs.declared.wire.Arrived.TheVariants as R
-use Rattle.pool_machine.specs.MachineOf.{LinkWires}
-use Rattle.pool_machine.specs.OnWires.{has_wire, wire_of}
+use Rattle.machine_network.specs.LinkWires.{LinkWires, has_wire, wire_of}
+use Rattle.machine_network.proofs.Laws.{never_lost, same_at, taken_at, told_of}
 use Rattle.pool_machine.proofs.EventsOnWires.{next_comes, next_waits, nothing_comes, stale_comes, wire_stays}
-use Rattle.pool_machine.proofs.WireMap.{never_lost, same_at, taken_at, told_of}
 use Rattle.pool_machine.proofs.wired.move_on_wire.Goals as goal
 
 pub unreachable-requires : goal.unreachable-requires

@@ -5,9 +5,9 @@ use Rattle.mesh_semantics.specs.Delay.{Delay}
 use Rattle.mesh_of_code.specs.Coded.{Placed, coded}
 use Rattle.node_semantics.specs.Machine.{any_faulted}
 use Rattle.node_state.specs.NodeOf.{NodeOf}
+use Rattle.machine_network.specs.LinkWires.{wires_in}
 use Rattle.pool_machine.specs.MachineOf.{MachineOf}
 use Rattle.pool_machine.specs.Parts.{machine_from}
-use Rattle.pool_machine.specs.OnWires.{wires_in}
 use Rattle.pool_machine.specs.Answers.{MachineRepresents}
 use Rattle.pool_machine.proofs.ReportedStandings.{faults_told, state_of}
 use Rattle.pool_machine.proofs.machine.Machine.any_faulted.Goals as goal

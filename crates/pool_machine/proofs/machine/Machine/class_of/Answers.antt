@@ -5,12 +5,13 @@ use Rattle.mesh_semantics.specs.Delay.{Delay}
 use Rattle.mesh_of_code.specs.Coded.{Placed}
 use Rattle.node_semantics.specs.StandsFor.{slot_at}
 use Rattle.node_state.specs.NodeOf.{NodeOf}
+use Rattle.machine_network.specs.LinkWires.{wires_in}
+use Rattle.machine_network.specs.MachineOn.{AreOfUnit}
 use Rattle.pool_machine.specs.MachineOf.{MachineOf}
 use Rattle.pool_machine.specs.ObjectReport.{slot_class}
-use Rattle.pool_machine.specs.OnWires.{wires_in}
 use Rattle.pool_machine.specs.Answers.{MachineRepresents, class_at}
 use Rattle.pool_machine.proofs.ReportedStandings.{class_told, state_of}
-use Rattle.pool_machine.specs.Parts.{AreOfUnit, machine_from}
+use Rattle.pool_machine.specs.Parts.{machine_from}
 use Rattle.pool_machine.proofs.ChangedNodes.{are_of_unit}
 use Rattle.pool_machine.proofs.machine.Machine.class_of.Goals as goal
 

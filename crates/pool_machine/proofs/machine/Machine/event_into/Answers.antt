@@ -7,11 +7,13 @@ use Rattle.node_semantics.specs.Machine.{is_machine_quiet}
 use Rattle.rendezvous_protocol.specs.declared.packet.Packet.{Packet}
 use Rattle.mesh_routing.specs.Links.{LinksOf}
 use Rattle.node_state.specs.NodeOf.{NodeOf}
-use Rattle.pool_machine.specs.MachineOf.{LinkWires, MachineOf}
+use Rattle.machine_network.specs.LinkWires.{LinkWires, wires_in}
+use Rattle.machine_network.specs.MachineOn.{AreOfUnit, machine_on}
+use Rattle.pool_machine.specs.MachineOf.{MachineOf}
 use Rattle.std.specs.Vec.{with_items}
 use Rattle.std.proofs.lemmas.List.{with_items_is}
-use Rattle.pool_machine.specs.Parts.{AreOfUnit, EachCount}
-use Rattle.pool_machine.specs.OnWires.{WiredMachineInvariant, EachEntered, EventMakes, machine_on, wires_in}
+use Rattle.pool_machine.specs.Parts.{EachCount}
+use Rattle.pool_machine.specs.OnWires.{WiredMachineInvariant, EachEntered, EventMakes}
 use Rattle.pool_machine.specs.MachineInvariant.{machine_view}
 use Rattle.pool_machine.specs.Answers.{IsOfMesh, IsOutcome, IsServed, MachineRepresents}
 use Rattle.pool_machine.specs.DidOf as D

@@ -3,8 +3,8 @@ use Rattle.mesh_semantics.specs.Config.{Config}
 use Rattle.mesh_semantics.specs.Delay.{Delay}
 use Rattle.mesh_semantics.specs.Act.{is_quiet}
 use Rattle.mesh_of_code.specs.Coded.{Placed, coded}
+use Rattle.machine_network.specs.LinkWires.{wires_in}
 use Rattle.pool_machine.specs.MachineOf.{MachineOf}
-use Rattle.pool_machine.specs.OnWires.{wires_in}
 use Rattle.pool_machine.specs.Answers.{MachineRepresents}
 use Rattle.pool_machine.proofs.ReportedStandings.{quiet_is}
 use Rattle.pool_machine.proofs.machine.Machine.is_quiet.Goals as goal

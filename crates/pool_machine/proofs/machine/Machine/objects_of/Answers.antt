@@ -5,8 +5,8 @@ use Rattle.mesh_semantics.specs.Config.{Config}
 use Rattle.mesh_semantics.specs.Delay.{Delay}
 use Rattle.mesh_semantics.specs.Act.{object_count}
 use Rattle.mesh_of_code.specs.Coded.{Placed}
+use Rattle.machine_network.specs.LinkWires.{wires_in}
 use Rattle.pool_machine.specs.MachineOf.{MachineOf}
-use Rattle.pool_machine.specs.OnWires.{wires_in}
 use Rattle.pool_machine.specs.Answers.{MachineRepresents}
 use Rattle.pool_machine.proofs.ReportedStandings.{objects_told, state_of}
 use Rattle.pool_machine.proofs.machine.Machine.objects_of.Goals as goal

@@ -11,9 +11,10 @@ use Rattle.mesh_of_code.proofs.Laws.{code_fits, code_start_sound}
 use Rattle.rendezvous_protocol.specs.declared.packet.Packet.{Packet}
 use Rattle.mesh_routing.specs.Links.{LinksOf}
 use Rattle.node_state.specs.NodeOf.{NodeOf}
-use Rattle.pool_machine.specs.Parts.{AreOfUnit}
-use Rattle.pool_machine.proofs.ChangedNodes.{are_of_unit, element}
-use Rattle.pool_machine.specs.OnWires.{machine_on, wires_in}
+use Rattle.machine_network.specs.LinkWires.{wires_in}
+use Rattle.machine_network.specs.MachineOn.{AreOfUnit, machine_on}
+use Rattle.machine_network.proofs.Laws.{element}
+use Rattle.pool_machine.proofs.ChangedNodes.{are_of_unit}
 use Rattle.pool_machine.proofs.NewWires.{made_lossy, sound_start}
 use Rattle.pool_machine.proofs.StartOfMachines.{counts_start, entered_start, root_inside, stands_start, wired_start}
 use Rattle.pool_machine.proofs.machine.Machine.on_table.Goals as goal

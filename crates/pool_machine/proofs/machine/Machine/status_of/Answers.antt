@@ -6,9 +6,9 @@ use Rattle.mesh_of_code.specs.Coded.{Placed, coded}
 use Rattle.node_semantics.specs.Standings.{machine_standing}
 use Rattle.node_state.specs.NodeOf.{NodeOf}
 use Rattle.pool_node.specs.Standings.{told_standing}
+use Rattle.machine_network.specs.LinkWires.{wires_in}
 use Rattle.pool_machine.specs.MachineOf.{MachineOf}
 use Rattle.pool_machine.specs.Parts.{NodesInvariant, machine_from}
-use Rattle.pool_machine.specs.OnWires.{wires_in}
 use Rattle.pool_machine.specs.Answers.{MachineRepresents, standing_at}
 use Rattle.pool_machine.proofs.ReportedStandings.{standing_told, state_of}
 use Rattle.pool_machine.proofs.WithoutWires.{kept_without}

@@ -1,0 +1,4 @@
+-- Internal: what it does not.
+pub mod LinkWires
+pub mod WireReports
+pub mod MachineOn

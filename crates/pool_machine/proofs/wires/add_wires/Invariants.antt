@@ -1,6 +1,0 @@
-use Rattle.std.proofs.Common.{◌*◌}
-use Rattle.pool_machine.specs.OnWires.{AreNew}
-use Rattle.pool_machine.proofs.wires.add_wires.Given as goal
-
-abbrev pub invariant-loop-to : goal.invariant-loop-to
-invariant-loop-to l = AreNew l.mesh.width (l.mesh.width * l.mesh.height) l.from l.to l.wires.entries
