@@ -6,7 +6,7 @@ use std::alloc::AllocError;
 use thiserror::Error;
 
 /// The reason why a file is not verified.
-#[derive(Clone, Copy, Debug, PartialEq, Eq, Error)]
+#[derive(Clone, Copy, Debug, Error)]
 pub enum VerifyFault {
     /// `class` is the number, from 0, of the first class whose heading breaks a rule. It is 0 if there is no class.
     #[error("Header {class}")]

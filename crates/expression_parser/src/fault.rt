@@ -6,7 +6,7 @@ use std::alloc::{AllocError, AllocFailed};
 use thiserror::Error;
 
 /// The first syntax error of a list of tokens, with the number of its token, counted from 0.
-#[derive(Clone, Copy, Debug, PartialEq, Eq, Error)]
+#[derive(Clone, Copy, Debug, Error)]
 pub enum SyntaxFault {
     /// The tokens up to this one begin no program, and those before it do.
     #[error("token {token} is not expected")]

@@ -86,7 +86,7 @@ module _ (old : Lanes) (objects to : ℕ) (k : IsKept old.pool.lists old.cells o
     pub shared_message : (m : Message) → option_map (λ (y : Stamped). y.message) (slice_get (get_or l f.0 []) f.1) ≡ Some m → slice_get (box_of v to) place ≡ Some m
     shared_message m h = ap (λ z. slice_get z place) box_is ∙ message_at l old.cells old.next objects to k slot [] f.0 below f.1 x there place low high ∙ sym (ap (option_map (λ (y : Stamped). y.message)) there) ∙ h
 
-    module _ (new : Lanes) (h : new ≡ record old { pool = with_list old.pool f.0 (remove (get_or l f.0 []) f.1) }) where
+    module _ (new : Lanes) (h : new ≡ record old { pool = with_list old.pool f.0 (remove (get_or l f.0 []) f.1); waiting = new.waiting }) where
       abbrev m_shared : List (List Stamped)
       m_shared = set l f.0 (remove (get_or l f.0 []) f.1)
 

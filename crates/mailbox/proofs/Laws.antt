@@ -30,5 +30,9 @@ module _ (names : List NameId) (old new : Mail Message) (to : ℕ) where
           let y = t.0 in let same : m ≡ y = let h = t.1 in cc in let named = (position-Some p box place y e).1 in
           ap p same ∙ ap p (sym (get_or_from_slice_get box place y y t.2)) ∙ named
 
+  -- it was somewhere
+  pub taken_somewhere : (m : Message) → IsTaken names old to (Some m) new → position p box ≡ None → ⊥
+  taken_somewhere m t e = let s = subst (At (Some m)) e t in let no = s.0 in cc
+
   pub none_taken : (place : ℕ) → IsTaken names old to None new → position p box ≡ Some place → ⊥
   none_taken place t e = let s = taken_at None place t e in let h = s.1 in cc

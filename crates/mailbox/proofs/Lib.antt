@@ -11,3 +11,4 @@ pub mod Removed
 pub mod Search
 pub mod Taken
 pub mod Views
+pub mod Waiting

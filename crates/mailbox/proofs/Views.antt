@@ -108,7 +108,7 @@ module _ (old : Lanes) (objects to : ℕ) (k : IsKept old.pool.lists old.cells o
   within b best = let w = best.within in omega (arith, w, k.count)
 
   -- it is taken from a shared queue
-  module _ (b : ℕ × ℕ) (best : IsEarliest l n Wanted b) (new : Lanes) (is : new ≡ record old { pool = with_list old.pool b.0 (drop 1 (get_or l b.0 [])) }) where
+  module _ (b : ℕ × ℕ) (best : IsEarliest l n Wanted b) (new : Lanes) (is : new ≡ record old { pool = with_list old.pool b.0 (drop 1 (get_or l b.0 [])); waiting = new.waiting }) where
     pop_seen : IsSeen old new objects to (box_in (set l b.0 best.rest) n to)
     pop_seen =
         seen old new objects to (box_in (set l b.0 best.rest) n to) (set l b.0 best.rest) old.next (taken_shared l old.cells old.next objects to k slot names b best).1 refl

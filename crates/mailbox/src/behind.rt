@@ -81,7 +81,7 @@ impl Behind {
     /// Removes the first message of a slot whose method is one of `names`. The others keep their order. Returns None,
     /// and changes nothing, if there is none.
     #[inline(never)]
-    pub(crate) fn take_first(&mut self, to: u32, names: &List<NameId>) -> Option<Message>
+    pub(crate) fn take_first(&mut self, to: u32, names: &[NameId]) -> Option<Message>
         requires { to < length self.old.boxes }
         ensures { IsTaken names.now self.old to result self.new }
     {
@@ -96,7 +96,7 @@ impl Behind {
 
     /// Reports whether a slot has a message whose method is one of `names`.
     #[inline(never)]
-    pub(crate) fn has_first(&self, to: u32, names: &List<NameId>) -> bool
+    pub(crate) fn has_first(&self, to: u32, names: &[NameId]) -> bool
         requires { to < length self.now.boxes }
         ensures { result ≡ is_some (position (λ m. is_named names.now m.method) (box_of self.now to)) }
     {

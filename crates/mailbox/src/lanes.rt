@@ -6,6 +6,7 @@ ghost use Rattle.run_types.specs.Tables.{Each};
 ghost use Rattle.mailbox.specs.Lanes.{shared, home_of, found_at, better_of, may_hold, IsChain, IsFound, IsNear, Keyed, Named, rank_in, joined, sizes};
 ghost use Rattle.mailbox.specs.Mail.{is_named};
 ghost use Rattle.mailbox.specs.Posted.{InShared, InLate};
+ghost use Rattle.mailbox.specs.Waiting.{named_stamp, IsListedIn, IsPosted, IsRemoved};
 
 use crate::Message;
 use cell_pool::CellPool;
@@ -22,10 +23,12 @@ pub struct Stamped {
 
 /// The queues of a mailbox. The first `2 * cells + 8` are shared: a shared queue that is not empty has the messages of
 /// one method to one slot. A method of a slot may use eight of them, from its home on. Then there is a late queue for
-/// each slot, for messages that no shared queue takes. `next` is the next stamp.
+/// each slot, for messages that no shared queue takes. `waiting` has a list for each slot, of the shared queues that have
+/// messages to it. `next` is the next stamp.
 #[derive(Drop)]
 pub struct Lanes {
     pub(crate) pool: CellPool<Stamped>,
+    pub(crate) waiting: CellPool<usize>,
     pub(crate) cells: u32,
     pub(crate) next: u64,
 }
@@ -65,12 +68,15 @@ fn better(a: Option<(usize, u64)>, b: Option<(usize, u64)>) -> Option<(usize, u6
 impl Lanes {
     /// Allocates the queues.
     pub(crate) fn make(alloc: Global, objects: u32, cells: u32) -> Result<Lanes, AllocError>
-        ensures { IfOk result (λ l. (l.pool ≡ pool (replicate (shared cells + objects) []) cells) × (l.cells ≡ cells) × (l.next ≡ 0)) }
+        ensures empty { IfOk result (λ l. (l.pool ≡ pool (replicate (shared cells + objects) []) cells) × (l.cells ≡ cells) × (l.next ≡ 0)) }
+        ensures listed { IfOk result IsListedIn }
     {
-        let queues = shared_count(cells) + objects as usize;
-        let pool = CellPool::make(alloc, cells as usize, queues)?;
+        let queues = shared_count(cells);
+        let pool = CellPool::make(alloc, cells as usize, queues + objects as usize)?;
+        let waiting = CellPool::make(alloc, queues, objects as usize)?;
         Ok(Lanes {
             pool,
+            waiting,
             cells,
             next: 0,
         })
@@ -113,8 +119,23 @@ impl Lanes {
         best
     }
 
-    /// The first message to a slot in the shared queues whose method is one of the names.
+    /// The first message to a slot in the shared queues whose method is one of the names. It looks up the names, or the
+    /// methods that wait, whichever are fewer.
     pub(crate) fn earliest(&self, to: u32, names: &[NameId]) -> Option<(usize, u64)>
+        requires slot { shared self.now.cells + to < length self.now.pool.lists }
+        requires chains { (q : ℕ) → q < shared self.now.cells → IsChain (get_or self.now.pool.lists q []) }
+        requires near { (q : ℕ) → q < shared self.now.cells → Each (IsNear self.now.cells self.now.next q) (get_or self.now.pool.lists q []) }
+        requires listed { IsListedIn self.now }
+        ensures { IsFound self.now.pool.lists (shared self.now.cells) (Named to names.now) result }
+    {
+        if self.waiting.len(to as usize) < names.len() {
+            return self.earliest_waiting(to, names);
+        }
+        self.earliest_named(to, names)
+    }
+
+    /// The same, by a look for each name.
+    fn earliest_named(&self, to: u32, names: &[NameId]) -> Option<(usize, u64)>
         requires count { shared self.now.cells ≤ length self.now.pool.lists }
         requires chains { (q : ℕ) → q < shared self.now.cells → IsChain (get_or self.now.pool.lists q []) }
         requires near { (q : ℕ) → q < shared self.now.cells → Each (IsNear self.now.cells self.now.next q) (get_or self.now.pool.lists q []) }
@@ -125,6 +146,38 @@ impl Lanes {
             best = better(best, self.near(to, name.0));
         }
         best
+    }
+
+    /// The same, by a look at each shared queue that has messages to the slot.
+    fn earliest_waiting(&self, to: u32, names: &[NameId]) -> Option<(usize, u64)>
+        requires slot { to < length self.now.waiting.lists }
+        requires chains { (q : ℕ) → q < shared self.now.cells → IsChain (get_or self.now.pool.lists q []) }
+        requires listed { IsListedIn self.now }
+        ensures { IsFound self.now.pool.lists (shared self.now.cells) (Named to names.now) result }
+    {
+        let slot = to as usize;
+        match self
+            .waiting
+            .least(slot, |queue| self.named_stamp(*queue, to, names))
+        {
+            Some((place, stamp)) => Some((*self.waiting.get(slot, place), stamp)),
+            None => None,
+        }
+    }
+
+    /// The stamp of the front message of a shared queue, if it is to the slot and its method is one of the names.
+    fn named_stamp(&self, queue: usize, to: u32, names: &[NameId]) -> Option<u64>
+        requires { shared self.now.cells ≤ length self.now.pool.lists }
+        ensures { result ≡ named_stamp self.now.pool.lists (shared self.now.cells) to names.now queue }
+    {
+        if queue >= shared_count(self.cells) || self.pool.len(queue) == 0 {
+            return None;
+        }
+        let front = self.pool.get(queue, 0);
+        if front.to == to && is_one_of(names, front.message.method) {
+            return Some(front.stamp);
+        }
+        None
     }
 
     /// Reports whether a queue is empty, or its front message is one of the method to the slot.
@@ -163,7 +216,9 @@ impl Lanes {
     /// Appends a message to a shared queue, or else to the late queue of its slot. Returns the message as the error, and
     /// changes nothing, if every cell is in use.
     pub(crate) fn post(&mut self, to: u32, message: Message) -> Result<(), Message>
-        requires { shared self.old.cells + to < length self.old.pool.lists }
+        requires slot { shared self.old.cells + to < length self.old.pool.lists }
+        requires listed { IsListedIn self.old }
+        ensures listed { IsListedIn self.new }
         ensures full { IsErr result ↔ (free_of self.old.pool ≡ 0) }
         ensures within { lengths self.old.pool.lists ≤ self.old.pool.cells }
         ensures ok { OnOk result (InShared self.old self.new to message ⊎ InLate self.old self.new to message) }
@@ -179,6 +234,7 @@ impl Lanes {
             Some(queue) => match self.pool.push_back(queue, stamped) {
                 Ok(()) => {
                     self.next += 1;
+                    self.list_first(queue, to);
                     Ok(())
                 }
                 Err(back) => Err(back.message),
@@ -193,14 +249,49 @@ impl Lanes {
         }
     }
 
-    /// Removes the front message of a queue.
+    /// Lists a shared queue that got a message to a slot, if it is the only message of the queue.
+    fn list_first(&mut self, queue: usize, to: u32)
+        requires { IsPosted self.old queue to }
+        ensures listed { IsListedIn self.new }
+        ensures lanes { self.new ≡ record self.old { waiting = self.new.waiting } }
+    {
+        if self.pool.len(queue) == 1 {
+            let _ = self.waiting.push_back(to as usize, queue);
+        }
+    }
+
+    /// Removes a shared queue from the list of a slot, after one of its messages was removed, if it was the last one.
+    fn unlist_empty(&mut self, queue: usize, to: u32)
+        requires { IsRemoved self.old queue to }
+        ensures listed { IsListedIn self.new }
+        ensures lanes { self.new ≡ record self.old { waiting = self.new.waiting } }
+    {
+        if self.pool.len(queue) > 0 {
+            return;
+        }
+        let slot = to as usize;
+        match self.waiting.position(slot, |other| *other == queue) {
+            Some(place) => {
+                let _ = self.waiting.remove(slot, place);
+            }
+            None => {}
+        }
+    }
+
+    /// Removes the front message of a shared queue.
     pub(crate) fn pop(&mut self, queue: usize) -> Option<Message>
-        requires { queue < length self.old.pool.lists }
+        requires queue { queue < shared self.old.cells }
+        requires chain { IsChain (get_or self.old.pool.lists queue []) }
+        requires listed { IsListedIn self.old }
         ensures message { result ≡ option_map (λ (x : OneStamped). x.message) (slice_get (get_or self.old.pool.lists queue []) 0) }
-        ensures lanes { self.new ≡ record self.old { pool = with_list self.old.pool queue (drop 1 (get_or self.old.pool.lists queue [])) } }
+        ensures lanes { self.new ≡ record self.old { pool = with_list self.old.pool queue (drop 1 (get_or self.old.pool.lists queue [])); waiting = self.new.waiting } }
+        ensures listed { IsListedIn self.new }
     {
         match self.pool.pop_front(queue) {
-            Some(stamped) => Some(stamped.message),
+            Some(stamped) => {
+                self.unlist_empty(queue, stamped.to);
+                Some(stamped.message)
+            }
             None => None,
         }
     }
@@ -221,19 +312,25 @@ impl Lanes {
         requires place { place < length (get_or self.old.pool.lists (shared self.old.cells + to) []) }
         ensures message { option_map (λ (x : OneStamped). x.message) (slice_get (get_or self.old.pool.lists (shared self.old.cells + to) []) place) ≡ Some result }
         ensures lanes { self.new ≡ record self.old { pool = with_list self.old.pool (shared self.old.cells + to) (remove (get_or self.old.pool.lists (shared self.old.cells + to) []) place) } }
+        ensures listed { IsListedIn self.old → IsListedIn self.new }
     {
         let late = self.late(to);
         self.pool.remove(late, place).message
     }
 
-    /// Removes the message at index `place` of a queue.
+    /// Removes the message at index `place` of a shared queue.
     pub(crate) fn remove(&mut self, queue: usize, place: usize) -> Message
-        requires queue { queue < length self.old.pool.lists }
+        requires queue { queue < shared self.old.cells }
         requires place { place < length (get_or self.old.pool.lists queue []) }
+        requires chain { IsChain (get_or self.old.pool.lists queue []) }
+        requires listed { IsListedIn self.old }
         ensures message { option_map (λ (x : OneStamped). x.message) (slice_get (get_or self.old.pool.lists queue []) place) ≡ Some result }
-        ensures lanes { self.new ≡ record self.old { pool = with_list self.old.pool queue (remove (get_or self.old.pool.lists queue []) place) } }
+        ensures lanes { self.new ≡ record self.old { pool = with_list self.old.pool queue (remove (get_or self.old.pool.lists queue []) place); waiting = self.new.waiting } }
+        ensures listed { IsListedIn self.new }
     {
-        self.pool.remove(queue, place).message
+        let stamped = self.pool.remove(queue, place);
+        self.unlist_empty(queue, stamped.to);
+        stamped.message
     }
 
     /// The number of messages to a slot in a shared queue whose stamp is below `end`.

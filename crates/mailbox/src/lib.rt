@@ -128,12 +128,12 @@ impl Mailbox {
     }
 
     /// Removes the first message of a slot whose method is one of `names`. The others keep their order. Returns None,
-    /// and changes nothing, if there is none. The time is in proportion to the number of names.
-    pub fn take_first(&mut self, to: u32, names: &List<NameId>) -> Option<Message>
+    /// and changes nothing, if there is none. It looks up the names, or the methods that wait, whichever are fewer.
+    pub fn take_first(&mut self, to: u32, names: &[NameId]) -> Option<Message>
         requires { to < length self.old.boxes }
         ensures { IsTaken names.now self.old to result self.new }
     {
-        match early_place(&self.early, to, names.items()) {
+        match early_place(&self.early, to, names) {
             Some(place) => {
                 self.free += 1;
                 Some(self.early.remove(to as usize, place))
@@ -153,13 +153,13 @@ impl Mailbox {
         }
     }
 
-    /// Reports whether a slot has a message whose method is one of `names`. The time is in proportion to the number of
-    /// names.
-    pub fn has_first(&self, to: u32, names: &List<NameId>) -> bool
+    /// Reports whether a slot has a message whose method is one of `names`. It looks up the names, or the methods that
+    /// wait, whichever are fewer.
+    pub fn has_first(&self, to: u32, names: &[NameId]) -> bool
         requires { to < length self.now.boxes }
         ensures { result ≡ is_some (position (λ m. is_named names.now m.method) (box_of self.now to)) }
     {
-        if early_place(&self.early, to, names.items()).is_some() {
+        if early_place(&self.early, to, names).is_some() {
             return true;
         }
         if self.behind.count_of(to) == 0 {

@@ -7,7 +7,8 @@ use run_types::{List, NameId};
 use std::alloc::{AllocError, Global};
 use std::marker::Model;
 
-/// The messages of all slots, for slots below `objects`. A message is found in the time of the names that it may have.
+/// The messages of all slots, for slots below `objects`. A message is found in the time of the names that it may have, or
+/// of the methods that wait for its slot.
 pub struct Queues {
     lanes: Lanes,
     objects: u32,
@@ -21,10 +22,11 @@ impl Model for Queues {
     ghost Value = { Mail OneMessage };
 
     ghost use Rattle.mailbox.specs.Lanes.{IsKept, boxes_in, shared};
+    ghost use Rattle.mailbox.specs.Waiting.{IsListedIn};
 
     ghost view = { λ m. mail (boxes_in m.lanes.pool.lists (shared m.lanes.cells) m.objects) m.lanes.pool.cells };
 
-    ghost invariant = { λ m. (m.lanes.pool.cells ≡ m.lanes.cells) × IsKept m.lanes.pool.lists m.lanes.cells m.lanes.next m.objects };
+    ghost invariant = { λ m. ((m.lanes.pool.cells ≡ m.lanes.cells) × IsListedIn m.lanes) × IsKept m.lanes.pool.lists m.lanes.cells m.lanes.next m.objects };
 }
 
 impl Queues {
@@ -83,12 +85,11 @@ impl Queues {
     }
 
     /// Removes the first message of a slot whose method is one of `names`. The others keep their order. Returns None,
-    /// and changes nothing, if there is none. The time is in proportion to the number of names.
-    pub(crate) fn take_first(&mut self, to: u32, names: &List<NameId>) -> Option<Message>
+    /// and changes nothing, if there is none. It looks up the names, or the methods that wait, whichever are fewer.
+    pub(crate) fn take_first(&mut self, to: u32, names: &[NameId]) -> Option<Message>
         requires { to < length self.old.boxes }
         ensures { IsTaken names.now self.old to result self.new }
     {
-        let names = names.items();
         match self.lanes.earliest(to, names) {
             Some(found) => self.lanes.pop(found.0),
             None => match self.lanes.late_place(to, names) {
@@ -98,13 +99,12 @@ impl Queues {
         }
     }
 
-    /// Reports whether a slot has a message whose method is one of `names`. The time is in proportion to the number of
-    /// names.
-    pub(crate) fn has_first(&self, to: u32, names: &List<NameId>) -> bool
+    /// Reports whether a slot has a message whose method is one of `names`. It looks up the names, or the methods that
+    /// wait, whichever are fewer.
+    pub(crate) fn has_first(&self, to: u32, names: &[NameId]) -> bool
         requires { to < length self.now.boxes }
         ensures { result ≡ is_some (position (λ m. is_named names.now m.method) (box_of self.now to)) }
     {
-        let names = names.items();
         if self.lanes.earliest(to, names).is_some() {
             return true;
         }

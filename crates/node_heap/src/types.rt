@@ -21,7 +21,7 @@ pub struct FrameHead {
 }
 
 /// The limit that an operation would exceed.
-#[derive(Clone, Copy, Debug, PartialEq, Eq)]
+#[derive(Clone, Copy, Debug)]
 pub enum HeapFull {
     Objects,
     Frames,

@@ -45,7 +45,7 @@ module _ (u : Code) (n : NodeOf) (of : IsOfUnit u n) (y : Placed) where
       by (inr e) = inr (sym (front_there n.state.slots (fresh_slot y) j e) ∙ h)
 
   pub added_of_unit : FitsUnit u y.object → IsAtStep u y.object → y.served ≡ None → IsOfUnit u (added u n y)
-  added_of_unit fits rests plain = record { proper = of.proper; vars = of.vars; made = of.made; slots = slots; distinct = distinct; ready = bits }
+  added_of_unit fits rests plain = record { proper = of.proper; vars = of.vars; made = of.made; slots = slots; distinct = distinct; ready = bits; long = of.long }
     where
       slots : (j : ℕ) (v : Slot Placed) → slice_get (n.state.slots ++ fresh_slot y ∷ []) j ≡ Some v → IsSlotOf u (name_at n.id j) v
       slots j v h = by (where_it_is j v h)

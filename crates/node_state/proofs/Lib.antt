@@ -6,6 +6,7 @@ pub mod SlotUpdate
 pub mod ServedNumbers
 pub mod SmallChanges
 pub mod AddedObject
+pub mod LongAnswers
 pub mod Laws
 pub mod FirstSetBit
 pub mod BitWords

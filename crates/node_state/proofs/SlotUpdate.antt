@@ -48,6 +48,7 @@ module _ (u : Code) (n : NodeOf) (of : IsOfUnit u n) (i : ℕ) (s t : Slot Place
     slots = slots;
     distinct = distinct;
     ready = ap (λ (bits : List Bool). slice_set bits i (can_go (coded u) n.id (i, t))) of.ready ∙ sym bits;
+    long = of.long;
   }
     where
       slots : (j : ℕ) (v : Slot Placed) → slice_get (set_at n.state.slots i t) j ≡ Some v → IsSlotOf u (name_at n.id j) v

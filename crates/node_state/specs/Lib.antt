@@ -8,3 +8,4 @@ pub mod Changes
 pub mod Served
 pub mod Bits
 pub mod Words
+pub mod LongAnswers

@@ -7,6 +7,7 @@ use Rattle.run_types.specs.declared.frames.CodeObject.{CodeObject}
 use Rattle.mesh_of_code.specs.Coded.{Placed}
 use Rattle.node_semantics.specs.Node.{NodeState}
 use Rattle.node_state.specs.Codes.{state_code}
+use Rattle.node_state.specs.declared.long.LongAnswer.{LongAnswer}
 
 pub record NodeOf : Type 0 where
   -- the number of the node
@@ -20,10 +21,12 @@ pub record NodeOf : Type 0 where
   pub state : NodeState Placed
   -- whether each object can step
   pub ready : List Bool
+  -- the long answers of its unit
+  pub long : List LongAnswer
 
-abbrev pub node_code : Coded CodeObject → Coded Error → Coded Value → Coded NodeOf
-node_code x e v =
-    code_by (ℕ × (ℕ × (ℕ × (ℕ × (ℕ × (NodeState Placed × List Bool))))))
-    (coded× coded_ℕ (coded× coded_ℕ (coded× coded_ℕ (coded× coded_ℕ (coded× coded_ℕ (coded× (state_code x e v) (coded_list coded_bool)))))))
-    (λ n. (n.id, (n.most_objects, (n.most_frames, (n.most_cells, (n.most_vars, (n.state, n.ready)))))))
-    (λ t. record { id = t.0; most_objects = t.1.0; most_frames = t.1.1.0; most_cells = t.1.1.1.0; most_vars = t.1.1.1.1.0; state = t.1.1.1.1.1.0; ready = t.1.1.1.1.1.1 }) (λ _. refl)
+abbrev pub node_code : Coded CodeObject → Coded Error → Coded Value → Coded LongAnswer → Coded NodeOf
+node_code x e v a =
+    code_by (ℕ × (ℕ × (ℕ × (ℕ × (ℕ × (NodeState Placed × (List Bool × List LongAnswer)))))))
+    (coded× coded_ℕ (coded× coded_ℕ (coded× coded_ℕ (coded× coded_ℕ (coded× coded_ℕ (coded× (state_code x e v) (coded× (coded_list coded_bool) (coded_list a))))))))
+    (λ n. (n.id, (n.most_objects, (n.most_frames, (n.most_cells, (n.most_vars, (n.state, (n.ready, n.long))))))))
+    (λ t. record { id = t.0; most_objects = t.1.0; most_frames = t.1.1.0; most_cells = t.1.1.1.0; most_vars = t.1.1.1.1.0; state = t.1.1.1.1.1.0; ready = t.1.1.1.1.1.1.0; long = t.1.1.1.1.1.1.1 }) (λ _. refl)

@@ -9,6 +9,7 @@ use Rattle.code_semantics.specs.StepInstructions.{FitsUnit, IsAtStep}
 use Rattle.mesh_of_code.specs.Coded.{Placed, coded}
 use Rattle.node_semantics.specs.Node.{Slot, can_go, name_at, placed}
 use Rattle.mesh_semantics.specs.Requests.{posts_request}
+use Rattle.node_state.specs.LongAnswers.{AreLongOf}
 use Rattle.node_state.specs.NodeOf.{NodeOf}
 
 -- A slot whose object has frames of the unit and is at a step instruction. If it has an outstanding request, the object
@@ -31,6 +32,7 @@ pub record IsOfUnit (u : Code) (n : NodeOf) : Type 0 where
       → s.request ≡ Some number → t.request ≡ Some number → i ≡ j
   -- the objects that can step
   pub ready : n.ready ≡ map (can_go (coded u) n.id) (placed 0 n.state.slots)
+  pub long : AreLongOf u n.long
 
 pub record IsOfPlacement (u : Code) (l : Placement) (n : NodeOf) : Type 0 where
   pub suits : Suits l u

@@ -71,6 +71,7 @@ node_of p = record {
   most_vars = p.heap.most_vars;
   state = record { slots = slots_of p; last = p.last; made = p.made };
   ready = take (length p.heap.objects) p.ready;
+  long = p.long;
 }
 
 -- the slot of this number

@@ -6,10 +6,12 @@ ghost use Rattle.mailbox.specs.Mail.{box_of};
 ghost use Rattle.node_heap.specs.Heaps.{object_at};
 ghost use Rattle.object_interp.specs.Offers.{offer_at, offers_at};
 ghost use Rattle.node_state.specs.Choices.{first_of_these, may_go};
+ghost use Rattle.node_state.specs.LongAnswers.{AreLongOf};
 
+use crate::long::names_of;
 use crate::state::NodeParts;
 use code_semantics::Unit;
-use object_interp::{alts, answer_names, plain_alt};
+use object_interp::{alts, plain_alt};
 
 impl NodeParts {
     /// Reports whether alternative `alt` of a slot, counted from 1, is open, and is plain or answers a message in the
@@ -20,12 +22,13 @@ impl NodeParts {
         requires room { slot < length self.now.mailbox.boxes }
         requires fits { FitsUnit unit.now (object_at self.now.heap slot) }
         requires rests { IsAtStep unit.now (object_at self.now.heap slot) }
+        requires long { AreLongOf unit.now self.now.long }
         ensures { result ≡ may_go (box_of self.now.mailbox slot) (offer_at (offers_at unit.now (object_at self.now.heap slot)) alt) }
     {
         if plain_alt(unit, &self.heap, slot, alt) {
             return true;
         }
-        match answer_names(unit, &self.heap, slot, alt) {
+        match names_of(unit, &self.heap, &self.long, slot, alt) {
             Some(names) => self.mailbox.has_first(slot, names),
             None => false,
         }
@@ -38,6 +41,7 @@ impl NodeParts {
         requires room { slot < length self.now.mailbox.boxes }
         requires fits { FitsUnit unit.now (object_at self.now.heap slot) }
         requires rests { IsAtStep unit.now (object_at self.now.heap slot) }
+        requires long { AreLongOf unit.now self.now.long }
         ensures { result ≡ first_of_these (box_of self.now.mailbox slot) 1 (offers_at unit.now (object_at self.now.heap slot)) }
     {
         let count = alts(unit, &self.heap, slot);

@@ -4,9 +4,11 @@
 #![tactic(auto)]
 
 mod choice;
+mod long;
 mod moves;
 mod ready;
 mod state;
 
+pub use long::{AnswerPlace, LongAnswer, long_answers};
 pub use ready::ReadySet;
 pub use state::NodeParts;

@@ -21,12 +21,13 @@ ghost use Rattle.node_state.specs.Changes.{IsAdded, IsChanged, serves_for_call};
 ghost use Rattle.node_state.specs.Choices.{place_called};
 ghost use Rattle.node_state.specs.Served.{IsServed};
 
+use crate::long::names_of;
 use crate::state::NodeParts;
 use code_semantics::Unit;
 use mailbox::Message;
 use node_heap::HeapFull;
-use object_interp::{answer_names, enter, go_on, pick, resume_with, to_step};
-use run_types::{Error, List, NameId, Serves, Value};
+use object_interp::{enter, go_on, pick, resume_with, to_step};
+use run_types::{Error, Serves, Value};
 
 /// Who receives the value of a method that is started for this message.
 fn serves(message: &Message) -> Serves
@@ -153,50 +154,26 @@ impl NodeParts {
         ensures none { place_called (box_of self.old.mailbox slot) (open_names (offer_at (offers_at unit.now (object_at self.old.heap slot)) alt)) ≡ None
             → (result ≡ None) × (self.new ≡ self.old) }
     {
-        match answer_names(unit, &self.heap, slot, alt) {
-            Some(names) => self.serve_named(unit, slot, alt, names),
-            None => None,
+        let Some(names) = names_of(unit, &self.heap, &self.long, slot, alt) else {
+            return None;
+        };
+        let Some(message) = self.mailbox.take_first(slot, names) else {
+            return None;
+        };
+        let serves = serves(&message);
+        let entered = enter(
+            unit,
+            &mut self.heap,
+            slot,
+            alt,
+            message.method,
+            &message.args,
+            serves,
+        );
+        if entered.is_ok() {
+            self.refresh(unit, slot);
         }
-    }
-
-    /// Does the same for the names that the alternative answers.
-    fn serve_named(
-        &mut self,
-        unit: &Unit,
-        slot: u32,
-        alt: u32,
-        names: &List<NameId>,
-    ) -> Option<Message>
-        requires whole { NodeInvariant self.old }
-        requires unit { IsOfUnit unit.now (node_of self.old) }
-        requires slot { slot < length self.old.heap.objects }
-        requires free { get_or self.old.outstanding slot None ≡ None }
-        requires choosing { IsChoosing (code_kind unit.now (object_at self.old.heap slot)) }
-        requires frames { frames_used self.old.heap < self.old.heap.most_frames }
-        requires names { open_names (offer_at (offers_at unit.now (object_at self.old.heap slot)) alt) ≡ Some names.now }
-        ensures served { (place : ℕ) → place_called (box_of self.old.mailbox slot) (Some names.now) ≡ Some place → IsServed unit.now self.old self.new slot alt place result }
-        ensures none { place_called (box_of self.old.mailbox slot) (Some names.now) ≡ None → (result ≡ None) × (self.new ≡ self.old) }
-    {
-        match self.mailbox.take_first(slot, names) {
-            Some(message) => {
-                let serves = serves(&message);
-                if enter(
-                    unit,
-                    &mut self.heap,
-                    slot,
-                    alt,
-                    message.method,
-                    &message.args,
-                    serves,
-                )
-                .is_ok()
-                {
-                    self.refresh(unit, slot);
-                }
-                Some(message)
-            }
-            None => None,
-        }
+        Some(message)
     }
 
     /// Makes an object in a new slot, and returns the number of the slot. `class` is the index of its class in the

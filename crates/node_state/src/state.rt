@@ -8,9 +8,10 @@ ghost use Rattle.node_semantics.specs.Node.{arrivals, can_go};
 ghost use Rattle.mesh_of_code.specs.Coded.{coded, kind_of};
 ghost use Rattle.mailbox.specs.Mail.{box_of};
 ghost use Rattle.node_heap.specs.Heaps.{object_at};
+ghost use Rattle.node_state.specs.LongAnswers.{AreLongOf};
 ghost use Rattle.node_state.specs.Views.{arrivals_of, refreshed, slot_at};
 
-use crate::ReadySet;
+use crate::{LongAnswer, ReadySet};
 use code_semantics::Unit;
 use mailbox::Mailbox;
 use node_heap::Heap;
@@ -20,7 +21,8 @@ use run_types::{Error, List};
 
 /// The state of a node. For each slot, `faults` has the run-time error of its object, and `ready` says whether it can
 /// step. `goals` has the node to which the last request of the slot for a new object went. For each class of the unit,
-/// `made` counts the objects that the node's objects have made. `last` is the slot that stepped last.
+/// `made` counts the objects that the node's objects have made. `long` has the long answers of the unit. `last` is the slot
+/// that stepped last.
 #[derive(Drop)]
 pub struct NodeParts {
     pub id: u32,
@@ -33,6 +35,7 @@ pub struct NodeParts {
     pub ready: ReadySet,
     pub last: Option<u32>,
     pub made: List<u32>,
+    pub long: List<LongAnswer>,
 }
 
 impl NodeParts {
@@ -43,6 +46,7 @@ impl NodeParts {
         requires boxes { slot < length self.now.mailbox.boxes }
         requires fits { FitsUnit unit.now (object_at self.now.heap slot) }
         requires rests { IsAtStep unit.now (object_at self.now.heap slot) }
+        requires long { AreLongOf unit.now self.now.long }
         ensures { result ≡ can_step (arrivals (arrivals_of (box_of self.now.mailbox slot))) (kind_of (code_kind unit.now (object_at self.now.heap slot))) }
     {
         if can_step_alone(unit, &self.heap, slot) {
@@ -61,6 +65,7 @@ impl NodeParts {
         requires faults { slot < length self.now.faults }
         requires fits { FitsUnit unit.now (object_at self.now.heap slot) }
         requires rests { IsAtStep unit.now (object_at self.now.heap slot) }
+        requires long { AreLongOf unit.now self.now.long }
         ensures { result ≡ can_go (coded unit.now) self.now.id (slot, slot_at self.now slot) }
     {
         if self.outstanding.number_of(slot).is_some() {
@@ -82,6 +87,7 @@ impl NodeParts {
         requires bits { slot < length self.old.ready }
         requires fits { FitsUnit unit.now (object_at self.old.heap slot) }
         requires rests { IsAtStep unit.now (object_at self.old.heap slot) }
+        requires long { AreLongOf unit.now self.old.long }
         ensures { self.new ≡ refreshed unit.now self.old slot }
     {
         let bit = self.can_go_now(unit, slot);

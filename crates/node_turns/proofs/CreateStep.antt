@@ -152,7 +152,7 @@ counted u q made w of e = record {
     no_fault = w.no_fault;
     no_goal = w.no_goal;
   };
-  unit = record { proper = of.proper; vars = of.vars; made = e ∙ of.made; slots = of.slots; distinct = of.distinct; ready = of.ready };
+  unit = record { proper = of.proper; vars = of.vars; made = e ∙ of.made; slots = of.slots; distinct = of.distinct; ready = of.ready; long = of.long };
   is = refl;
 }
 

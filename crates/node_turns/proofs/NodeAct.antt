@@ -123,7 +123,7 @@ module _ (u : Code) (l : Placement) (leaving : ℕ) (p : NodeParts) (whole : Nod
   pub begun_set : frames_used p.heap ≤ p.heap.most_frames → IsSet u l leaving begun
   begun_set frames = record {
     whole = last_whole (Some i) p whole;
-    unit = record { proper = of.proper; vars = of.vars; made = of.made; slots = of.slots; distinct = of.distinct; ready = of.ready };
+    unit = record { proper = of.proper; vars = of.vars; made = of.made; slots = of.slots; distinct = of.distinct; ready = of.ready; long = of.long };
     placement = record { suits = at.suits; id = at.id; objects = at.objects; frames = at.frames; cells = at.cells };
     cells = cells;
     frames = let e = at.frames in omega (arith, e, frames);

@@ -28,7 +28,7 @@ use Rattle.rendezvous_protocol.specs.declared.packet.Packet.{Packet}
 use Rattle.node_state.specs.declared.state.NodeParts.{NodeParts}
 use Rattle.node_turns.specs.ActOf as A
 use Rattle.node_state.specs.NodeOf.{NodeOf}
-use Rattle.node_state.specs.Views.{NodeInvariant, arrival_of, slots_of, node_of, slot_at}
+use Rattle.node_state.specs.Views.{arrival_of, slots_of, node_of, slot_at}
 use Rattle.node_state.specs.Changes.{IsChanged}
 use Rattle.node_turns.specs.NodeSteps.{IsSet, IsLine, IsTurned, IsMoved, packet_by, posted, lacks_cell}
 use Rattle.node_state.proofs.Laws.{slots_length, length_gone_on}

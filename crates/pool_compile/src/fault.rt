@@ -6,7 +6,7 @@ use std::alloc::AllocError;
 use thiserror::Error;
 
 /// The reason why `compile` returns no unit.
-#[derive(Clone, Copy, Debug, PartialEq, Eq, Error)]
+#[derive(Clone, Copy, Debug, Error)]
 pub enum CompileFault {
     /// Out of memory: a list could not grow, or a body or a method has 2^32 instructions or more.
     #[error("out of memory")]

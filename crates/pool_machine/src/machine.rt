@@ -52,12 +52,13 @@ impl<'a> Model for Machine<'a> {
     ghost use Rattle.run_types.specs.contracts.types.Error as error;
     ghost use Rattle.run_types.specs.contracts.types.Value as value;
     ghost use Rattle.rendezvous_protocol.specs.contracts.packet.Packet as packet;
+    ghost use Rattle.node_state.specs.contracts.long.LongAnswer as long_answer;
     ghost use Rattle.node_state.specs.NodeOf.{node_code};
     ghost use Rattle.pool_machine.specs.MachineOf.{MachineOf, machine_code};
 
     ghost Value = { MachineOf };
 
-    ghost coded = { machine_code unit_of.the_row.coded placement_of.the_row.coded (node_code image.the_row.coded error.the_row.coded value.the_row.coded) packet.the_row.coded };
+    ghost coded = { machine_code unit_of.the_row.coded placement_of.the_row.coded (node_code image.the_row.coded error.the_row.coded value.the_row.coded long_answer.the_row.coded) packet.the_row.coded };
 
     ghost use Rattle.pool_machine.specs.MachineInvariant.{MachineInvariant, machine_view};
 

@@ -12,7 +12,7 @@ pub(crate) struct Plan<'a> {
 }
 
 /// The reason that a machine was not made: memory ran out.
-#[derive(Clone, Copy, Debug, PartialEq, Eq)]
+#[derive(Clone, Copy, Debug)]
 pub enum OpenFault {
     Memory,
 }

@@ -19,7 +19,7 @@ numbers_length (k ∷ ks) = omega (arith, numbers_length ks)
 -- without objects, and with no count above 0
 pub fresh_view : (u : Code) (p : NodeParts) (id objects frames vars : ℕ) → p.heap ≡ record { node = id; most_objects = objects; most_frames = frames; most_vars = vars; objects = [] }
     → p.last ≡ None → p.made ≡ replicate (length u.classes) 0
-    → node_of p ≡ record { id = p.id; most_objects = objects; most_frames = frames; most_cells = p.mailbox.cells; most_vars = vars; state = empty_node (coded u); ready = [] }
+    → node_of p ≡ record { id = p.id; most_objects = objects; most_frames = frames; most_cells = p.mailbox.cells; most_vars = vars; state = empty_node (coded u); ready = []; long = p.long }
 fresh_view u p id objects frames vars heap last made = λ i. record {
   id = p.id;
   most_objects = (heap i).most_objects;
@@ -32,6 +32,7 @@ fresh_view u p id objects frames vars heap last made = λ i. record {
     made = (made ∙ ap (λ (n : ℕ). replicate n 0) (sym (numbers_length u.classes))) i;
   };
   ready = take (length (heap i).objects) p.ready;
+  long = p.long;
 }
 
 -- one value at each place is what is read, wherever it is looked for

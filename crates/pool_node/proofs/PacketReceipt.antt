@@ -1,5 +1,5 @@
 -- The receipt of packets at their goal.
-use Rattle.std.proofs.Common.{◌≡◌, ◌≢◌, inl, inr, refl, sym, ap, ap₂, subst, ◌∙◌, ℕ, zero, suc, ◌+◌, ◌<◌, ◌≤◌, ◌==◌, not, List, [], ◌∷◌, length, drop, get_or, Option, Some, None, Bool, true, false, if◌then◌else◌, arith, ltb-true}
+use Rattle.std.proofs.Common.{◌≡◌, inl, inr, refl, sym, ap, ap₂, subst, ◌∙◌, ℕ, zero, suc, ◌+◌, ◌<◌, ◌≤◌, ◌==◌, not, List, [], ◌∷◌, length, drop, get_or, Option, Some, None, Bool, true, false, if◌then◌else◌, arith, ltb-true}
 use Rattle.std.specs.Prelude.{slice_get, nat_lt}
 use Rattle.std.proofs.lemmas.List.{length_push}
 use Rattle.run_types.specs.declared.types.Value.{Value}
@@ -23,7 +23,7 @@ use Rattle.mesh_semantics.specs.NumberedPackets as NumberedPackets
 use Rattle.run_types.specs.ObjectNames as DObjectNames
 use Rattle.run_types.specs.PathFacts.{In}
 use Rattle.run_types.specs.Partial.{◌>>=◌}
-use Rattle.run_types.proofs.Laws.{equal, equals, same_some}
+use Rattle.run_types.proofs.Laws.{equals, same_some}
 use Rattle.node_semantics.specs.Node as N
 use Rattle.node_semantics.specs.Node.{Slot, NodeState, NodeActed, add_slot, created_for, deliver, fresh_slot, frames_in, message_count, name_at, receipt, within_node}
 use Rattle.node_semantics.specs.Receives.{HasObject}

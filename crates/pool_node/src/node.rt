@@ -24,7 +24,7 @@ use crate::standing::{any_fault, standing_of};
 use code_semantics::Unit;
 use mailbox::Mailbox;
 use node_heap::{Heap, HeapLimits};
-use node_state::NodeParts;
+use node_state::{NodeParts, long_answers};
 use node_turns::{Act, NodePlan, StepOutput, TurnOutcome, first_ready, turn_of};
 use rendezvous_protocol::Packet;
 use run_types::{Placement, Standing};
@@ -42,11 +42,12 @@ impl Model for Node {
     ghost use Rattle.run_types.specs.contracts.frames.CodeObject as image;
     ghost use Rattle.run_types.specs.contracts.types.Error as error;
     ghost use Rattle.run_types.specs.contracts.types.Value as value;
+    ghost use Rattle.node_state.specs.contracts.long.LongAnswer as long_answer;
     ghost use Rattle.node_state.specs.NodeOf.{NodeOf, node_code};
 
     ghost Value = { NodeOf };
 
-    ghost coded = { node_code image.the_row.coded error.the_row.coded value.the_row.coded };
+    ghost coded = { node_code image.the_row.coded error.the_row.coded value.the_row.coded long_answer.the_row.coded };
 
     ghost use Rattle.node_state.specs.Views.{NodeInvariant, node_of};
 
@@ -76,6 +77,7 @@ impl Node {
               most_vars = most_vars unit.now.classes;
               state = empty_node (coded unit.now);
               ready = [];
+              long = n.long;
             }) }
         ensures unit { IfOk result (λ n. IsOfUnit unit.now n) }
         ensures placement { IfOk result (λ n. IsOfPlacement unit.now placement.now n) }
@@ -91,6 +93,7 @@ impl Node {
         let mailbox = Mailbox::make(alloc, placement.objects, placement.cells)?;
         let tables = slot_tables(alloc, placement.objects)?;
         let made = filled(alloc, unit.classes.items().len() as u32, 0)?;
+        let long = long_answers(alloc, unit)?;
         let parts = NodeParts {
             id,
             cells: placement.cells,
@@ -102,6 +105,7 @@ impl Node {
             ready: tables.ready,
             last: None,
             made,
+            long,
         };
         Ok(Node { parts })
     }

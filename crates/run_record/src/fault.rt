@@ -6,7 +6,7 @@ use std::alloc::AllocError;
 use thiserror::Error;
 
 /// The fault of a record. Lines are numbered from 1, and the first line with a fault counts.
-#[derive(Clone, Copy, Debug, PartialEq, Eq, Error)]
+#[derive(Clone, Copy, Debug, Error)]
 pub enum RecordFault {
     /// The line has no form of a record's line. Or there is no end line, and `line` is the number of the last line plus
     /// 1.

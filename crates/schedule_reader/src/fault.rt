@@ -7,7 +7,7 @@ use thiserror::Error;
 
 /// The fault of a schedule. Lines are numbered from 1. The first line with a fault counts, and of its faults the first
 /// in this order.
-#[derive(Clone, Copy, Debug, PartialEq, Eq, Error)]
+#[derive(Clone, Copy, Debug, Error)]
 pub enum ScheduleFault {
     /// The line has none of the forms of a schedule's line. The first content line must be a `quantum` line, and no
     /// other may be one. Only the second content line may be `wires lossy`, and only after it may a line name an event

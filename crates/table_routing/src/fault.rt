@@ -6,7 +6,7 @@ use std::alloc::AllocError;
 use thiserror::Error;
 
 /// The reason that a placement has no routing table.
-#[derive(Clone, Copy, Debug, PartialEq, Eq, Error)]
+#[derive(Clone, Copy, Debug, Error)]
 pub enum TableFault {
     /// The path from `from` to `to` uses a cut link, or visits a node twice. It is the first such pair, ordered by
     /// `from` and then by `to`.

@@ -6,6 +6,10 @@ use Rattle.mailbox.specs.Mail.{box_of, is_named}
 use Rattle.mailbox.proofs.Views.{slot_below, queue_below, first_shared, first_late, first_none, place_fits}
 use Rattle.mailbox.proofs.queues.Queues.first.Goals as goal
 
+pub earliest-requires-clause-slot : goal.earliest-requires-clause-slot
+earliest-requires-clause-slot c =
+    let o = c.self.inside in let l = o.lanes in let k = c.self.invariant.1 in queue_below l.pool.lists l.cells l.next o.objects l.pool.cells c.args.to c.args.self.now k c.self.view_is c.requires
+
 pub late_place-requires : goal.late_place-requires
 late_place-requires c =
     let o = c.self.inside in let l = o.lanes in let k = c.self.invariant.1 in queue_below l.pool.lists l.cells l.next o.objects l.pool.cells c.args.to c.args.self.now k c.self.view_is c.requires

@@ -1,25 +1,27 @@
-use Rattle.std.proofs.Common.{List, Some, None, subst}
-use Rattle.run_types.specs.declared.types.NameId.{NameId}
-use Rattle.mailbox.specs.Lanes.{shared, boxes_in}
-use Rattle.mailbox.specs.Mail.{mail, IsTaken}
-use Rattle.mailbox.proofs.Views.{slot_below, queue_below, within, pop_invariant, pop_taken, late_within, late_invariant, late_taken, not_taken}
+use Rattle.mailbox.specs.Lanes.{shared}
+use Rattle.mailbox.proofs.Views.{slot_below, queue_below, pop_invariant, pop_taken, late_within, late_invariant, late_taken, not_taken}
 use Rattle.mailbox.proofs.queues.Queues.take_first.Goals as goal
 
-pub pop-requires : goal.pop-requires
-pop-requires c =
-    let o = c.self.inside in let l = o.lanes in let k = c.self.invariant.1 in let slot = slot_below l.pool.lists (shared l.cells) o.objects l.pool.cells c.args.to c.args.self.now c.self.view_is c.requires in
-    within l o.objects c.args.to k slot c.items-names.result.now c.in-Some.found c.in-Some.ensures
+pub earliest-requires-clause-slot : goal.earliest-requires-clause-slot
+earliest-requires-clause-slot c =
+    let o = c.self.inside in let l = o.lanes in let k = c.self.invariant.1 in queue_below l.pool.lists l.cells l.next o.objects l.pool.cells c.args.to c.args.self.now k c.self.view_is c.requires
+
+pub pop-requires-clause-queue : goal.pop-requires-clause-queue
+pop-requires-clause-queue c = let best = c.in-Some.ensures in best.within
+
+pub pop-requires-clause-chain : goal.pop-requires-clause-chain
+pop-requires-clause-chain c = let best = c.in-Some.ensures in c.self.invariant.1.chains c.in-Some.found.0 best.within
 
 pub invariant_of-self : goal.invariant_of-self
 invariant_of-self c =
     let o = c.self.inside in let l = o.lanes in let k = c.self.invariant.1 in let slot = slot_below l.pool.lists (shared l.cells) o.objects l.pool.cells c.args.to c.args.self.now c.self.view_is c.requires in
-    pop_invariant l o.objects c.args.to k slot c.items-names.result.now c.in-Some.found c.in-Some.ensures c.pop.new.self c.pop.ensures.lanes c.self.invariant.0
+    let r = pop_invariant l o.objects c.args.to k slot c.args.names.now c.in-Some.found c.in-Some.ensures c.pop.new.self c.pop.ensures.lanes c.self.invariant.0.0 in
+    ((r.0, c.pop.ensures.listed), r.1)
 
 pub returns-in-Some : goal.returns-in-Some
 returns-in-Some c =
     let o = c.self.inside in let l = o.lanes in let k = c.self.invariant.1 in let slot = slot_below l.pool.lists (shared l.cells) o.objects l.pool.cells c.args.to c.args.self.now c.self.view_is c.requires in
-    subst (λ (z : List NameId). IsTaken z c.args.self.now c.args.to c.pop.result (mail (boxes_in c.pop.new.self.pool.lists (shared c.pop.new.self.cells) o.objects) c.pop.new.self.pool.cells)) c.items-names.ensures
-    (pop_taken l o.objects c.args.to k slot c.items-names.result.now c.in-Some.found c.in-Some.ensures c.pop.new.self c.pop.ensures.lanes c.pop.result c.pop.ensures.message c.args.self.now c.self.view_is)
+    pop_taken l o.objects c.args.to k slot c.args.names.now c.in-Some.found c.in-Some.ensures c.pop.new.self c.pop.ensures.lanes c.pop.result c.pop.ensures.message c.args.self.now c.self.view_is
 
 pub late_place-requires : goal.late_place-requires
 late_place-requires c =
@@ -32,21 +34,20 @@ remove_late-requires-clause-queue c =
 pub remove_late-requires-clause-place : goal.remove_late-requires-clause-place
 remove_late-requires-clause-place c =
     let o = c.self.inside in let l = o.lanes in let k = c.self.invariant.1 in let slot = slot_below l.pool.lists (shared l.cells) o.objects l.pool.cells c.args.to c.args.self.now c.self.view_is c.requires in
-    late_within l o.objects c.args.to k slot c.items-names.result.now c.in-None.ensures c.in-Some-late_place.place c.in-Some-late_place.ensures
+    late_within l o.objects c.args.to k slot c.args.names.now c.in-None.ensures c.in-Some-late_place.place c.in-Some-late_place.ensures
 
 pub invariant_of-self-in-Some-late_place : goal.invariant_of-self-in-Some-late_place
 invariant_of-self-in-Some-late_place c =
     let o = c.self.inside in let l = o.lanes in let k = c.self.invariant.1 in let slot = slot_below l.pool.lists (shared l.cells) o.objects l.pool.cells c.args.to c.args.self.now c.self.view_is c.requires in
-    late_invariant l o.objects c.args.to k slot c.items-names.result.now c.in-None.ensures c.in-Some-late_place.place c.in-Some-late_place.ensures c.remove_late.new.self c.remove_late.ensures.lanes c.self.invariant.0
+    let r = late_invariant l o.objects c.args.to k slot c.args.names.now c.in-None.ensures c.in-Some-late_place.place c.in-Some-late_place.ensures c.remove_late.new.self c.remove_late.ensures.lanes c.self.invariant.0.0 in
+    ((r.0, c.remove_late.ensures.listed c.self.invariant.0.1), r.1)
 
 pub returns-in-Some-late_place : goal.returns-in-Some-late_place
 returns-in-Some-late_place c =
     let o = c.self.inside in let l = o.lanes in let k = c.self.invariant.1 in let slot = slot_below l.pool.lists (shared l.cells) o.objects l.pool.cells c.args.to c.args.self.now c.self.view_is c.requires in
-    subst (λ (z : List NameId). IsTaken z c.args.self.now c.args.to (Some c.remove_late.result) (mail (boxes_in c.remove_late.new.self.pool.lists (shared c.remove_late.new.self.cells) o.objects) c.remove_late.new.self.pool.cells)) c.items-names.ensures
-    (late_taken l o.objects c.args.to k slot c.items-names.result.now c.in-None.ensures c.in-Some-late_place.place c.in-Some-late_place.ensures c.remove_late.new.self c.remove_late.ensures.lanes c.remove_late.result c.remove_late.ensures.message c.args.self.now c.self.view_is)
+    late_taken l o.objects c.args.to k slot c.args.names.now c.in-None.ensures c.in-Some-late_place.place c.in-Some-late_place.ensures c.remove_late.new.self c.remove_late.ensures.lanes c.remove_late.result c.remove_late.ensures.message c.args.self.now c.self.view_is
 
 pub returns-in-None-late_place : goal.returns-in-None-late_place
 returns-in-None-late_place c =
     let o = c.self.inside in let l = o.lanes in let k = c.self.invariant.1 in let slot = slot_below l.pool.lists (shared l.cells) o.objects l.pool.cells c.args.to c.args.self.now c.self.view_is c.requires in
-    subst (λ (z : List NameId). IsTaken z c.args.self.now c.args.to None c.args.self.now) c.items-names.ensures
-    (not_taken l o.objects c.args.to k slot c.items-names.result.now c.in-None.ensures c.in-None-late_place.ensures c.args.self.now c.self.view_is)
+    not_taken l o.objects c.args.to k slot c.args.names.now c.in-None.ensures c.in-None-late_place.ensures c.args.self.now c.self.view_is

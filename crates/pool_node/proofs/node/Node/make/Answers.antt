@@ -27,6 +27,7 @@ returns-clause-empty c =
       ready = c.in_ok-tables.tables.ready;
       last = None;
       made = c.in_ok-made.made;
+      long = c.in_ok-long.long;
     } in
     let fresh = fresh_view c.args.unit.now p c.args.id c.args.placement.now.objects c.args.placement.now.frames _ c.in_ok-heap.ensures refl made in
     fresh ∙ (λ i. record {
@@ -37,6 +38,7 @@ returns-clause-empty c =
       most_vars = c.most_vars_of-vars.ensures i;
       state = empty_node (coded c.args.unit.now);
       ready = [];
+      long = c.in_ok-long.long;
     })
 
 pub invariant_of-result : goal.invariant_of-result

@@ -1,7 +1,7 @@
 use Rattle.std.proofs.Common.{◌+◌, take, sym, subst}
 use Rattle.mailbox.specs.Lanes.{shared, IsFound, Named}
 use Rattle.mailbox.proofs.Search.{named_more}
-use Rattle.mailbox.proofs.lanes.Lanes.earliest.Goals as goal
+use Rattle.mailbox.proofs.lanes.Lanes.earliest_named.Goals as goal
 
 pub loop-name-preserved : goal.loop-name-preserved
 loop-name-preserved c =

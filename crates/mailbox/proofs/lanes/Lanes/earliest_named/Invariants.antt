@@ -1,6 +1,6 @@
 use Rattle.std.proofs.Common.{take}
 use Rattle.mailbox.specs.Lanes.{shared, IsFound, Named}
-use Rattle.mailbox.proofs.lanes.Lanes.earliest.Given as goal
+use Rattle.mailbox.proofs.lanes.Lanes.earliest_named.Given as goal
 
 -- the earliest of the names so far was found
 abbrev pub invariant-loop-name : goal.invariant-loop-name
