@@ -180,6 +180,7 @@ fn same_place(a: &AnswerPlace, b: &AnswerPlace) -> bool
 
 /// The names that alternative `alt` of a slot, counted from 1, answers; each once if they are more than 64. None exactly if
 /// the alternative is plain, is not open, or does not exist.
+#[inline(always)]
 pub(crate) fn names_of<'a>(
     unit: &'a Unit,
     heap: &Heap,
@@ -221,7 +222,9 @@ fn place_of(heap: &Heap, slot: u32, alt: u32) -> AnswerPlace
     }
 }
 
-/// The names of the long answer at this place, each once. If it is not among the long answers, its names as they are.
+/// The names of the long answer at this place, each once. If it is not among the long answers, its names as they are. Long
+/// answers are rare, so it is not inlined.
+#[inline(never)]
 fn each_once<'a>(
     long: &'a [LongAnswer],
     place: &AnswerPlace,
