@@ -6,7 +6,12 @@ pub mod SlotUpdate
 pub mod ServedNumbers
 pub mod SmallChanges
 pub mod AddedObject
+pub mod PlaceOrder
+pub mod FewNames
+pub mod LongPlaces
+pub mod LongInstrs
 pub mod LongAnswers
+pub mod LongSearch
 pub mod Laws
 pub mod FirstSetBit
 pub mod BitWords

@@ -1,9 +1,7 @@
 -- The names of long answers, each once, stand for the names of the answers.
-use Rattle.std.proofs.Common.{◌≡◌, ℕ, zero, suc, ◌+◌, ◌<◌, ◌==◌, ◌||◌, Bool, true, false, List, [], ◌∷◌, ◌++◌, length, get_or, take, position, is_some, Option, Some, None, refl, sym, ap, ◌∙◌, subst}
-use Rattle.std.specs.Prelude.{slice_get, if◌then◌else◌}
-use Rattle.std.specs.List.{list_any}
-use Rattle.std.proofs.lemmas.Bool.{eqb-true}
-use Rattle.std.proofs.lemmas.List.Folds.{list_any-append, list_any_more}
+use Rattle.std.proofs.Common.{◌≡◌, ℕ, zero, suc, ◌≤◌, Bool, true, false, List, [], ◌∷◌, length, position, is_some, Option, Some, None, refl, sym, ap, ◌∙◌, subst}
+use Rattle.std.specs.Prelude.{Result, Ok, Err, OnOk, slice_get, if◌then◌else◌}
+use Rattle.run_types.specs.Tables.{Each}
 use Rattle.run_types.specs.Values.{is_true}
 use Rattle.run_types.specs.Operands.{taken}
 use Rattle.run_types.specs.declared.types.NameId.{NameId}
@@ -22,7 +20,7 @@ use Rattle.mailbox.specs.declared.Message.{Message}
 use Rattle.mailbox.specs.Mail.{is_named}
 use Rattle.node_state.specs.declared.long.LongAnswer.{LongAnswer}
 use Rattle.node_state.specs.Choices.{is_called, place_called}
-use Rattle.node_state.specs.LongAnswers.{answered, names_in, names_at, place_in, HasSameNames, IsLongOf, AreLongOf, IsSameAnswer}
+use Rattle.node_state.specs.LongAnswers.{answered, names_in, names_at, place_in, HasSameNames, IsLongOf, IsSameAnswer}
 
 -- ---- the same names
 
@@ -48,31 +46,6 @@ not_called (Some ys) h box = absurd h
 pub same_answers : (xs : List NameId) (o : Option (List NameId)) → IsSameAnswer (Some xs) o → (m : NameId) → answers_to o m ≡ is_named xs m
 same_answers xs None h m = absurd h
 same_answers xs (Some ys) h m = sym (h m)
-
--- a name that is in the list stands for one more
-named_by : (once : List NameId) (n m : NameId) → is_named once n ≡ true → (n.0 == m.0) ≡ true → is_named once m ≡ true
-named_by once n m has e = ap (λ k. list_any (λ (x : NameId). x.0 == k) once) (sym (eqb-true n.0 m.0 e)) ∙ has
-
-or_true : (a b : Bool) → (b ≡ true → a ≡ true) → (a || b) ≡ a
-or_true true b h = refl
-or_true false true h = sym (h refl)
-or_true false false h = refl
-
-or_none : (a : Bool) → (a || false) ≡ a
-or_none true = refl
-or_none false = refl
-
-module _ (once names : List NameId) (k : ℕ) (n : NameId) (less : k < length names) (is : get_or names k n ≡ n) (same : HasSameNames once (take k names)) where
-  one_more : (m : NameId) → is_named (take (k + 1) names) m ≡ (is_named (take k names) m || (n.0 == m.0))
-  one_more m = list_any_more (λ (x : NameId). x.0 == m.0) names k n less ∙ ap (λ (x : NameId). is_named (take k names) m || (x.0 == m.0)) is
-
-  -- it is there
-  pub named_again : is_named once n ≡ true → HasSameNames once (take (k + 1) names)
-  named_again has m = sym (or_true (is_named once m) (n.0 == m.0) (λ e. named_by once n m has e)) ∙ ap (λ b. b || (n.0 == m.0)) (same m) ∙ sym (one_more m)
-
-  -- it is appended
-  pub named_first : HasSameNames (once ++ n ∷ []) (take (k + 1) names)
-  named_first m = list_any-append (λ (x : NameId). x.0 == m.0) once (n ∷ []) ∙ ap (λ b. is_named once m || b) (or_none (n.0 == m.0)) ∙ ap (λ b. b || (n.0 == m.0)) (same m) ∙ sym (one_more m)
 
 -- ---- the place of an answer
 
@@ -107,15 +80,14 @@ module _ (names : List NameId) where
       by (f ∷ fs) g = in_instr f (slice_get (code_of (slice_get u.classes x.class) f.method) f.at) alt g
 
   -- the names of a long answer at the place
-  pub long_at : (u : Code) (long : List LongAnswer) (i : ℕ) (a : LongAnswer) → AreLongOf u long → slice_get long i ≡ Some a → names_at u a.place ≡ Some names → HasSameNames a.names names
+  pub long_at : (u : Code) (long : List LongAnswer) (i : ℕ) (a : LongAnswer) → Each (IsLongOf u) long → slice_get long i ≡ Some a → names_at u a.place ≡ Some names → HasSameNames a.names names × (length a.names ≤ 64)
   long_at u [] i a h at e = absurd (cc)
   long_at u (b ∷ long) zero a h at e = let same : b ≡ a = cc in is (subst (λ z. IsLongOf u z) same h.0)
     where
-      is : IsLongOf u a → HasSameNames a.names names
-      is w = let those : w.0 ≡ names = (let s : Some w.0 ≡ Some names = sym w.1 ∙ e in cc) in subst (λ ns. HasSameNames a.names ns) those w.2
+      is : IsLongOf u a → HasSameNames a.names names × (length a.names ≤ 64)
+      is w = let those : w.0 ≡ names = (let s : Some w.0 ≡ Some names = sym w.1 ∙ e in cc) in (subst (λ ns. HasSameNames a.names ns) those w.2, w.3)
   long_at u (b ∷ long) (suc i) a h at e = long_at u long i a h.1 at e
 
--- one more long answer
-pub long_more : (u : Code) (long : List LongAnswer) (a : LongAnswer) → AreLongOf u long → IsLongOf u a → AreLongOf u (long ++ a ∷ [])
-long_more u [] a h is = (is, tt)
-long_more u (b ∷ long) a h is = (h.0, long_more u long a h.1 is)
+pub on_ok_weaker : {X E : Type 0} (r : Result X E) (P Q : Type 0) → (P → Q) → OnOk r P → OnOk r Q
+on_ok_weaker (Ok x) P Q f h = f h
+on_ok_weaker (Err e) P Q f h = tt

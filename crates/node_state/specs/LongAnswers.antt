@@ -1,5 +1,7 @@
 -- The names of long answers, each once.
-use Rattle.std.specs.Prelude.{◌≡◌, ℕ, zero, suc, List, Option, Some, None, slice_get}
+use Rattle.std.specs.Prelude.{◌≡◌, ◌<◌, ◌≤◌, ℕ, zero, suc, List, [], ◌∷◌, Option, Some, None, length, slice_get}
+use Rattle.std.specs.declared.cmp.Ordering.{Ordering}
+use Rattle.std.specs.declared.cmp.Ordering.TheVariants.{Less}
 use Rattle.run_types.specs.Tables.{Each}
 use Rattle.run_types.specs.declared.types.NameId.{NameId}
 use Rattle.run_types.specs.declared.frames.CodeObject.{CodeObject}
@@ -12,6 +14,7 @@ use Rattle.node_heap.specs.Heaps.{top_in}
 use Rattle.mailbox.specs.Mail.{is_named}
 use Rattle.node_state.specs.declared.long.AnswerPlace.{AnswerPlace}
 use Rattle.node_state.specs.declared.long.LongAnswer.{LongAnswer}
+use Rattle.node_state.specs.contracts.long.AnswerPlaceOrd.TheImpl as place_ord
 
 abbrev pub answered : Option AltCode → Option (List NameId)
 answered None = None
@@ -33,9 +36,12 @@ names_in (Some (I.Answer names)) alt = only_names names alt
 names_in (Some (I.Select alts)) alt = alternative_names alts alt
 names_in _ alt = None
 
+abbrev pub instr_at : Code → AnswerPlace → Option Instr
+instr_at u p = slice_get (code_of (slice_get u.classes p.class) p.method) p.at
+
 -- the names of the answer at a place of a unit
 abbrev pub names_at : Code → AnswerPlace → Option (List NameId)
-names_at u p = names_in (slice_get (code_of (slice_get u.classes p.class) p.method) p.at) p.alt
+names_at u p = names_in (instr_at u p) p.alt
 
 -- the place of an alternative of the current instruction of an object
 abbrev pub place_in : CodeObject → ℕ → AnswerPlace
@@ -45,12 +51,42 @@ place_in x alt = record { class = x.class; method = (top_in x.frames).method; at
 abbrev pub HasSameNames : List NameId → List NameId → Type 0
 HasSameNames xs ys = (m : NameId) → is_named xs m ≡ is_named ys m
 
--- at its place the unit has an answer of these names
-abbrev pub IsLongOf : Code → LongAnswer → Type 0
-IsLongOf u a = (names : List NameId) × (names_at u a.place ≡ Some names) × HasSameNames a.names names
+-- at most 64 of the names are different
+abbrev pub HasFewNames : List NameId → Type 0
+HasFewNames names = (once : List NameId) × HasSameNames once names × (length once ≤ 64)
 
-abbrev pub AreLongOf : Code → List LongAnswer → Type 0
-AreLongOf u answers = Each (IsLongOf u) answers
+-- at the place is an answer of more than 64 names, of which at most 64 are different
+abbrev pub IsLongAt : Code → AnswerPlace → Type 0
+IsLongAt u p = (names : List NameId) × (names_at u p ≡ Some names) × (64 < length names) × HasFewNames names
+
+-- the places in their order: by class, by method after the body, by instruction, by alternative
+abbrev pub place_order : AnswerPlace → AnswerPlace → Ordering
+place_order = (place_ord.ghosts).cmp
+
+-- at its place the unit has an answer of these names, which are at most 64
+abbrev pub IsLongOf : Code → LongAnswer → Type 0
+IsLongOf u a = (names : List NameId) × (names_at u a.place ≡ Some names) × HasSameNames a.names names × (length a.names ≤ 64)
+
+abbrev pub IsListed : List LongAnswer → AnswerPlace → Type 0
+IsListed answers p = (i : ℕ) × (a : LongAnswer) × (slice_get answers i ≡ Some a) × (a.place ≡ p)
+
+-- each place is before those after it
+abbrev pub IsInOrder : List LongAnswer → Type 0
+IsInOrder [] = Unit {0}
+IsInOrder (a ∷ answers) = Each (λ b. place_order a.place b.place ≡ Less) answers × IsInOrder answers
+
+-- the long answers of the unit, in the order of their places
+pub record AreLongOf (u : Code) (answers : List LongAnswer) : Type 0 where
+  pub each : Each (IsLongOf u) answers
+  pub all : (p : AnswerPlace) → IsLongAt u p → IsListed answers p
+  pub in_order : IsInOrder answers
+
+-- those at the places before this one
+pub record AreLongBefore (u : Code) (p : AnswerPlace) (answers : List LongAnswer) : Type 0 where
+  pub each : Each (IsLongOf u) answers
+  pub before : Each (λ a. place_order a.place p ≡ Less) answers
+  pub all : (q : AnswerPlace) → place_order q p ≡ Less → IsLongAt u q → IsListed answers q
+  pub in_order : IsInOrder answers
 
 -- both are the names of an alternative, or it has none
 abbrev pub IsSameAnswer : Option (List NameId) → Option (List NameId) → Type 0

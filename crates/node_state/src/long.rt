@@ -1,30 +1,30 @@
 //! The names of long answers, each once.
 //!
 //! An answer names methods of its class, and a class has at most 64. So a longer answer names some of them again.
-ghost use Rattle.std.specs.Prelude.{◌≡◌, ◌<◌, true, Some, length, slice_get, IfOk, IfSome, OnOk};
-ghost use Rattle.std.specs.Option.{option_copied};
+ghost use Rattle.std.specs.Prelude.{◌≡◌, ◌<◌, ◌≤◌, ◌+◌, Some, length, slice_get, IfOk, IfSome, OnOk};
+ghost use Rattle.std.specs.Option.{option_copied, MatchOption};
 ghost use Rattle.code_semantics.specs.declared.unit.Unit.{Unit as Code};
+ghost use Rattle.code_semantics.specs.declared.unit.Instr.TheVariants.{Select};
 ghost use Rattle.code_semantics.specs.Frames.{code_of};
 ghost use Rattle.code_semantics.specs.Proper.{IsProper};
 ghost use Rattle.code_semantics.specs.StepInstructions.{FitsUnit, IsAtStep};
-ghost use Rattle.mailbox.specs.Mail.{is_named};
 ghost use Rattle.node_heap.specs.Heaps.{object_at};
 ghost use Rattle.object_interp.specs.Offers.{offer_at, offers_at, open_names};
-ghost use Rattle.node_state.specs.LongAnswers.{names_at, alternative_names, AreLongOf, HasSameNames, IsSameAnswer, place_in};
+ghost use Rattle.node_state.specs.LongAnswers.{instr_at, names_at, place_in, AreLongBefore, AreLongOf, HasFewNames, HasSameNames, IsSameAnswer};
 
 use code_semantics::{AltCode, Instr, Unit};
 use node_heap::Heap;
 use object_interp::answer_names;
 use run_types::{List, NameId};
 use std::alloc::{AllocError, Global};
-use std::cmp::Ordering;
 
 /// The greatest number of names of an answer that is not long.
 const FEW: usize = 64;
 
 /// Where an answer is: the index of its class in the unit, the index of its method in the class (None: the body), the
-/// index of its instruction in the code, and the number of its alternative, from 1.
-#[derive(Clone, Copy)]
+/// index of its instruction in the code, and the number of its alternative, from 1. The order of places is that of these
+/// four, one after the other.
+#[derive(Clone, Copy, PartialEq, Eq, PartialOrd, Ord)]
 pub struct AnswerPlace {
     pub class: usize,
     pub method: Option<usize>,
@@ -64,14 +64,14 @@ pub fn long_answers(alloc: Global, unit: &Unit) -> Result<List<LongAnswer>, Allo
     Ok(found)
 }
 
-/// Appends the long answers of a method or body.
+/// Appends the long answers of a method or body to those of all places before it.
 fn add_code(
     alloc: Global,
     found: &mut List<LongAnswer>,
     place: AnswerPlace,
     code: &[Instr],
 ) -> Result<(), AllocError>
-    ensures { (u : Code) → code_of (slice_get u.classes place.class) place.method ≡ code.now → AreLongOf u found.old → OnOk result (AreLongOf u found.new) }
+    ensures { (u : Code) → code_of (slice_get u.classes place.class) place.method ≡ code.now → AreLongBefore u (record place { at = 0; alt = 0 }) found.old → OnOk result (AreLongBefore u (record place { at = length code.now; alt = 0 }) found.new) }
 {
     for (at, instr) in code.iter().enumerate() {
         add_instr(alloc, found, AnswerPlace { at, ..place }, instr)?;
@@ -79,14 +79,14 @@ fn add_code(
     Ok(())
 }
 
-/// Appends the long answers of an instruction.
+/// Appends the long answers of an instruction to those of all places before it.
 fn add_instr(
     alloc: Global,
     found: &mut List<LongAnswer>,
     place: AnswerPlace,
     instr: &Instr,
 ) -> Result<(), AllocError>
-    ensures { (u : Code) → slice_get (code_of (slice_get u.classes place.class) place.method) place.at ≡ Some instr.now → AreLongOf u found.old → OnOk result (AreLongOf u found.new) }
+    ensures { (u : Code) → instr_at u place ≡ Some instr.now → AreLongBefore u (record place { alt = 0 }) found.old → OnOk result (AreLongBefore u (record place { at = place.at + 1; alt = 0 }) found.new) }
 {
     match instr {
         Instr::Answer { names } => add_answer(alloc, found, AnswerPlace { alt: 1, ..place }, names),
@@ -95,14 +95,14 @@ fn add_instr(
     }
 }
 
-/// Appends the long answers of the alternatives of a select.
+/// Appends the long answers of the alternatives of a select to those of all places before them.
 fn add_alternatives(
     alloc: Global,
     found: &mut List<LongAnswer>,
     place: AnswerPlace,
     alts: &[AltCode],
 ) -> Result<(), AllocError>
-    ensures { (u : Code) → ((alt : _) → names_at u (record place { alt = alt }) ≡ alternative_names alts.now alt) → AreLongOf u found.old → OnOk result (AreLongOf u found.new) }
+    ensures { (u : Code) → instr_at u place ≡ Some (Select alts.now) → AreLongBefore u (record place { alt = 1 }) found.old → OnOk result (AreLongBefore u (record place { alt = length alts.now + 1 }) found.new) }
 {
     for (before, alternative) in alts.iter().enumerate() {
         if let Some(names) = &alternative.answer {
@@ -116,14 +116,14 @@ fn add_alternatives(
     Ok(())
 }
 
-/// Appends an answer if it is long and has at most 64 different names.
+/// Appends an answer, if it is long and has at most 64 different names, to the long answers of all places before it.
 fn add_answer(
     alloc: Global,
     found: &mut List<LongAnswer>,
     place: AnswerPlace,
     names: &List<NameId>,
 ) -> Result<(), AllocError>
-    ensures { (u : Code) → names_at u place ≡ Some names.now → AreLongOf u found.old → OnOk result (AreLongOf u found.new) }
+    ensures { (u : Code) → names_at u place ≡ Some names.now → AreLongBefore u place found.old → OnOk result (AreLongBefore u (record place { alt = place.alt + 1 }) found.new) }
 {
     if names.items().len() <= FEW {
         return Ok(());
@@ -142,11 +142,11 @@ fn add_answer(
 
 /// The names of a list, each once, in the order in which they are first named. None if they are more than 64.
 fn different(alloc: Global, names: &[NameId]) -> Result<Option<List<NameId>>, AllocError>
-    ensures { IfOk result (λ r. IfSome r (λ once. HasSameNames once names.now)) }
+    ensures { IfOk result (λ r. MatchOption r (¬ (HasFewNames names.now)) (λ once. HasSameNames once names.now × (length once ≤ 64))) }
 {
     let mut once = List::make(alloc);
     for name in names {
-        if is_among(once.items(), *name) {
+        if once.items().contains(name) {
             continue;
         }
         if once.items().len() == FEW {
@@ -159,27 +159,8 @@ fn different(alloc: Global, names: &[NameId]) -> Result<Option<List<NameId>>, Al
     Ok(Some(once))
 }
 
-/// Reports whether the name is one of the names.
-fn is_among(names: &[NameId], name: NameId) -> bool
-    ensures { result ≡ is_named names.now name }
-{
-    names.iter().any(|other| other.0 == name.0)
-}
-
-/// The order of two places in a unit.
-fn order(a: &AnswerPlace, b: &AnswerPlace) -> Ordering {
-    (a.class, a.method, a.at, a.alt).cmp(&(b.class, b.method, b.at, b.alt))
-}
-
-/// Reports whether two places are the same.
-fn same_place(a: &AnswerPlace, b: &AnswerPlace) -> bool
-    ensures { result ≡ true → a.now ≡ b.now }
-{
-    a.class == b.class && a.method == b.method && a.at == b.at && a.alt == b.alt
-}
-
-/// The names that alternative `alt` of a slot, counted from 1, answers; each once if they are more than 64. None exactly if
-/// the alternative is plain, is not open, or does not exist.
+/// The names that alternative `alt` of a slot, counted from 1, answers. If they are more than 64, of which at most 64 are
+/// different, each comes once. None exactly if the alternative is plain, is not open, or does not exist.
 #[inline(always)]
 pub(crate) fn names_of<'a>(
     unit: &'a Unit,
@@ -193,7 +174,8 @@ pub(crate) fn names_of<'a>(
     requires fits { FitsUnit unit.now (object_at heap.now slot) }
     requires rests { IsAtStep unit.now (object_at heap.now slot) }
     requires long { AreLongOf unit.now long.now }
-    ensures { IsSameAnswer (option_copied result) (open_names (offer_at (offers_at unit.now (object_at heap.now slot)) alt)) }
+    ensures same { IsSameAnswer (option_copied result) (open_names (offer_at (offers_at unit.now (object_at heap.now slot)) alt)) }
+    ensures few { IfSome result (λ names. HasFewNames names.now → length names.now ≤ 64) }
 {
     match answer_names(unit, heap, slot, alt) {
         Some(names) if names.items().len() > FEW => {
@@ -222,19 +204,21 @@ fn place_of(heap: &Heap, slot: u32, alt: u32) -> AnswerPlace
     }
 }
 
-/// The names of the long answer at this place, each once. If it is not among the long answers, its names as they are. Long
-/// answers are rare, so it is not inlined.
+/// The names of the long answer at this place, each once. If more than 64 are different, the names as they are. Long answers
+/// are rare, so it is not inlined.
 #[inline(never)]
 fn each_once<'a>(
     long: &'a [LongAnswer],
     place: &AnswerPlace,
     names: &'a List<NameId>,
 ) -> &'a [NameId]
-    requires { (u : Code) × AreLongOf u long.now × (names_at u place.now ≡ Some names.now) }
-    ensures { HasSameNames result.now names.now }
+    requires many { 64 < length names.now }
+    requires answer { (u : Code) × AreLongOf u long.now × (names_at u place.now ≡ Some names.now) }
+    ensures same { HasSameNames result.now names.now }
+    ensures few { HasFewNames names.now → length result.now ≤ 64 }
 {
-    match long.binary_search_by(|answer| order(&answer.place, place)) {
-        Ok(index) if same_place(&long[index].place, place) => long[index].names.items(),
-        _ => names.items(),
+    match long.binary_search_by_key(place, |answer| answer.place) {
+        Ok(index) => long[index].names.items(),
+        Err(_) => names.items(),
     }
 }

@@ -25,13 +25,13 @@ enter-entered-requires-clause-fits c = (slot_real c.args.unit.now c.args.self.no
 pub enter-entered-requires-clause-answers : goal.enter-entered-requires-clause-answers
 enter-entered-requires-clause-answers c =
     let p = c.args.self.now in let m = c.in-Some-take_first.message in
-    same_answers c.in-Some.names.now (open_names (offer_at (offers_at c.args.unit.now (object_at p.heap c.args.slot)) c.args.alt)) c.in-Some.ensures m.method
+    same_answers c.in-Some.names.now (open_names (offer_at (offers_at c.args.unit.now (object_at p.heap c.args.slot)) c.args.alt)) c.in-Some.ensures.same m.method
     ∙ taken_named c.in-Some.names.now p.mailbox c.take_first.new.self c.args.slot m c.in-Some-take_first.ensures
 
 pub returns-clause-served : goal.returns-clause-served
 returns-clause-served c = λ place called.
     let u = c.args.unit.now in let p = c.args.self.now in let i = c.args.slot in let m = c.in-Some-take_first.message in let names = c.in-Some.names.now in
-    let same = same_place names (open_names (offer_at (offers_at u (object_at p.heap i)) c.args.alt)) c.in-Some.ensures (box_of p.mailbox i) in
+    let same = same_place names (open_names (offer_at (offers_at u (object_at p.heap i)) c.args.alt)) c.in-Some.ensures.same (box_of p.mailbox i) in
     let t = taken_at names p.mailbox c.take_first.new.self i (Some m) place c.in-Some-take_first.ensures (sym same ∙ called) in
     elim c.if-is_ok.branch [
       | then-is_ok w ↦ (
@@ -55,5 +55,5 @@ returns-clause-served c = λ place called.
 pub returns-clause-none : goal.returns-clause-none
 returns-clause-none c = λ none.
     let p = c.args.self.now in let names = c.in-Some.names.now in
-    let same = same_place names (open_names (offer_at (offers_at c.args.unit.now (object_at p.heap c.args.slot)) c.args.alt)) c.in-Some.ensures (box_of p.mailbox c.args.slot) in
+    let same = same_place names (open_names (offer_at (offers_at c.args.unit.now (object_at p.heap c.args.slot)) c.args.alt)) c.in-Some.ensures.same (box_of p.mailbox c.args.slot) in
     absurd (taken_somewhere names p.mailbox c.take_first.new.self c.args.slot c.in-Some-take_first.message c.in-Some-take_first.ensures (sym same ∙ none))
