@@ -4,6 +4,7 @@ use Rattle.std.proofs.lemmas.Bool.{cases_lt}
 use Rattle.std.specs.declared.cmp.Ordering.TheVariants.{Less}
 use Rattle.run_types.specs.declared.types.NameId.{NameId}
 use Rattle.run_types.specs.Tables.{Each}
+use Rattle.run_types.proofs.Laws.{each_append, each_map}
 use Rattle.code_semantics.specs.declared.unit.Unit.{Unit as Code}
 use Rattle.node_state.specs.declared.long.AnswerPlace.{AnswerPlace}
 use Rattle.node_state.specs.declared.long.LongAnswer.{LongAnswer}
@@ -12,17 +13,9 @@ use Rattle.node_state.proofs.PlaceOrder.{IsBefore, IsMethodBefore, before, less}
 
 -- ---- lists
 
-each_push : {X : Type 0} (P : X → Type 0) (xs : List X) (x : X) → Each P xs → P x → Each P (xs ++ x ∷ [])
-each_push P [] x h p = (p, tt)
-each_push P (y ∷ xs) x h p = (h.0, each_push P xs x h.1 p)
-
-each_weaker : {X : Type 0} (P Q : X → Type 0) (xs : List X) → ((x : X) → P x → Q x) → Each P xs → Each Q xs
-each_weaker P Q [] f h = tt
-each_weaker P Q (x ∷ xs) f h = (f x h.0, each_weaker P Q xs f h.1)
-
 in_order_push : (answers : List LongAnswer) (a : LongAnswer) → IsInOrder answers → Each (λ b. place_order b.place a.place ≡ Less) answers → IsInOrder (answers ++ a ∷ [])
 in_order_push [] a h g = (tt, tt)
-in_order_push (b ∷ answers) a h g = (each_push (λ (x : LongAnswer). place_order b.place x.place ≡ Less) answers a h.0 g.0, in_order_push answers a h.1 g.1)
+in_order_push (b ∷ answers) a h g = (each_append (λ (x : LongAnswer). place_order b.place x.place ≡ Less) answers a h.0 g.0, in_order_push answers a h.1 g.1)
 
 listed_still : (answers : List LongAnswer) (a : LongAnswer) (q : AnswerPlace) → IsListed answers q → IsListed (answers ++ a ∷ []) q
 listed_still answers a q h = (h.0, h.1, at answers h.0 h.2, h.3)
@@ -77,7 +70,7 @@ module _ (u : Code) where
   pub further : (p r : AnswerPlace) (answers : List LongAnswer) → NoneBetween p r → AreLongBefore u p answers → AreLongBefore u r answers
   further p r answers n h = record {
     each = h.each;
-    before = each_weaker (λ (a : LongAnswer). place_order a.place p ≡ Less) (λ (a : LongAnswer). place_order a.place r ≡ Less) answers (λ a l. less a.place r (n.after a.place (before a.place p l))) h.before;
+    before = each_map (λ (a : LongAnswer). place_order a.place p ≡ Less) (λ (a : LongAnswer). place_order a.place r ≡ Less) (λ a l. less a.place r (n.after a.place (before a.place p l))) answers h.before;
     all = λ q l long. h.all q (less q p (n.none q (before q r l) long)) long;
     in_order = h.in_order;
   }
@@ -90,10 +83,10 @@ module _ (u : Code) where
   pub added : (p : AnswerPlace) (answers : List LongAnswer) (a : LongAnswer) → a.place ≡ p → IsLongOf u a → AreLongBefore u p answers → AreLongBefore u (record p { alt = p.alt + 1 }) (answers ++ a ∷ [])
   added p answers a is right h =
       let next : AnswerPlace = record p { alt = p.alt + 1 } in
-      let still = each_weaker (λ (b : LongAnswer). place_order b.place p ≡ Less) (λ (b : LongAnswer). place_order b.place next ≡ Less) answers (λ b l. less b.place next (next_after p b.place (before b.place p l))) h.before in
+      let still = each_map (λ (b : LongAnswer). place_order b.place p ≡ Less) (λ (b : LongAnswer). place_order b.place next ≡ Less) (λ b l. less b.place next (next_after p b.place (before b.place p l))) answers h.before in
       record {
-        each = each_push (IsLongOf u) answers a h.each right;
-        before = each_push (λ (b : LongAnswer). place_order b.place next ≡ Less) answers a still (subst (λ (r : AnswerPlace). place_order r next ≡ Less) (sym is) (less p next (at_next p)));
+        each = each_append (IsLongOf u) answers a h.each right;
+        before = each_append (λ (b : LongAnswer). place_order b.place next ≡ Less) answers a still (subst (λ (r : AnswerPlace). place_order r next ≡ Less) (sym is) (less p next (at_next p)));
         all = λ q l. next_is p (λ (r : AnswerPlace). IsLongAt u r → IsListed (answers ++ a ∷ []) r) q (λ r b long. listed_still answers a r (h.all r (less r p b) long)) (λ long. subst (IsListed (answers ++ a ∷ [])) is (listed_last answers a)) (before q next l);
         in_order = in_order_push answers a h.in_order (subst (λ (r : AnswerPlace). Each (λ (b : LongAnswer). place_order b.place r ≡ Less) answers) (sym is) h.before);
       }
