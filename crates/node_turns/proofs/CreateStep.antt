@@ -38,16 +38,16 @@ use Rattle.node_semantics.specs.Agrees.{IsUnused}
 use Rattle.node_semantics.proofs.Laws.{front_there, set_length}
 use Rattle.rendezvous_protocol.specs.declared.packet.Packet.TheVariants as P
 use Rattle.node_state.specs.declared.state.NodeParts.{NodeParts}
-use Rattle.node_turns.specs.ActOf as A
+use Rattle.node_acts.specs.ActOf as A
 use Rattle.node_state.specs.NodeOf.{NodeOf}
 use Rattle.node_state.specs.OfUnit.{IsOfUnit}
 use Rattle.node_state.specs.Views.{NodeInvariant, slots_of, node_of, slot_at}
 use Rattle.node_state.specs.Changes.{IsAdded, IsChanged}
-use Rattle.node_turns.specs.NodeSteps.{IsSet, IsTurned, IsMoved, turn_at}
+use Rattle.node_acts.specs.NodeSteps.{IsSet, IsTurned, IsMoved, turn_at}
 use Rattle.node_state.proofs.Laws.{slots_length, slot_real, kind_seen, got, below_length, length_given, settled_placed}
-use Rattle.node_turns.proofs.NodeLimits.{frames_seen, frames_set, frames_add, messages_add, within_heap, within_frames, within_cells}
-use Rattle.node_turns.proofs.StepFromChanges.{here, moved, moved_state, moved_line, moved_twice, turn_is, turned, same_messages}
-use Rattle.node_turns.proofs.PostStep.{within_objects, within_less, lt_not, under_le}
+use Rattle.node_acts.proofs.Laws.{frames_seen, frames_set, frames_add, messages_add, within_heap, within_frames, within_cells}
+use Rattle.node_acts.proofs.Laws.{here, moved, moved_state, moved_line, moved_twice, turn_is, turned, same_messages}
+use Rattle.node_acts.proofs.Laws.{within_objects, within_less, lt_not, under_le}
 
 set_is : {X : Type 0} (xs : List X) (i : ℕ) (y : X) → slice_set xs i y ≡ set_at xs i y
 set_is [] i y = refl

@@ -1,10 +1,4 @@
-pub mod HandKinds
-pub mod NodeLimits
-pub mod StepFromChanges
-pub mod PostStep
-pub mod ReturnStep
 pub mod LocalTurn
-pub mod AnswerStep
 pub mod CreateStep
 pub mod TurnSelection
 pub mod NodeAct

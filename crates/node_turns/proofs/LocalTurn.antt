@@ -31,12 +31,12 @@ use Rattle.run_types.specs.Partial.{◌>>=◌}
 use Rattle.node_semantics.specs.Node as N
 use Rattle.node_semantics.specs.Node.{Slot, NodeState, NodeActed, frames_in, local_act, local_state, name_at, put_state, room_for, set_at, steps_of, within_node}
 use Rattle.node_state.specs.declared.state.NodeParts.{NodeParts}
-use Rattle.node_turns.specs.ActOf as A
+use Rattle.node_acts.specs.ActOf as A
 use Rattle.node_state.specs.Views.{numbers_of, slots_of, node_of, slot_at, refreshed}
-use Rattle.node_turns.specs.NodeSteps.{IsSet, IsTurned, turn_at}
+use Rattle.node_acts.specs.NodeSteps.{IsSet, IsTurned, turn_at}
 use Rattle.node_state.proofs.Laws.{slot_real, by_heap, burst_changed, numbers_stepped}
-use Rattle.node_turns.proofs.NodeLimits.{frames_seen, some_frame, under_way_is}
-use Rattle.node_turns.proofs.StepFromChanges.{moved, moved_line, turn_is, turned, quiet_cells}
+use Rattle.node_acts.proofs.Laws.{frames_seen, some_frame, under_way_is}
+use Rattle.node_acts.proofs.Laws.{moved, moved_line, turn_is, turned, quiet_cells}
 
 -- the greatest number for which a test holds
 pub greatest_none : (t : ℕ → Bool) → ((k : ℕ) → t (suc k) ≡ false) → (q : ℕ) → greatest t q ≡ 0

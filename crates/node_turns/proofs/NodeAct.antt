@@ -18,16 +18,16 @@ use Rattle.rendezvous_protocol.specs.declared.packet.Packet.{Packet}
 use Rattle.run_types.specs.declared.types.FullKind.{FullKind}
 use Rattle.rendezvous_protocol.specs.Packets.{numbered}
 use Rattle.node_state.specs.declared.state.NodeParts.{NodeParts}
-use Rattle.node_turns.specs.ActOf.{Act}
-use Rattle.node_turns.specs.ActOf as A
+use Rattle.node_acts.specs.ActOf.{Act}
+use Rattle.node_acts.specs.ActOf as A
 use Rattle.node_state.specs.NodeOf.{NodeOf}
 use Rattle.node_state.specs.OfUnit.{IsOfUnit, IsOfPlacement}
 use Rattle.node_turns.specs.Acts.{IsActOf}
 use Rattle.node_state.specs.Views.{NodeInvariant, arrivals_of, slots_of, node_of, slot_at}
 use Rattle.node_turns.specs.Bits.{bit_in_turn}
-use Rattle.node_turns.specs.NodeSteps.{IsSet, IsLine, IsFull, ReportsAct, IsTurned, turn_at, kept}
+use Rattle.node_acts.specs.NodeSteps.{IsSet, IsLine, IsFull, ReportsAct, IsTurned, turn_at, kept}
 use Rattle.node_state.proofs.Laws.{slots_length, slot_view, kind_seen}
-use Rattle.node_turns.proofs.NodeLimits.{frames_seen, within_fits}
+use Rattle.node_acts.proofs.Laws.{frames_seen, within_fits}
 use Rattle.node_turns.proofs.TurnSelection.{turn_bits, in_turn, CanGo, can_go_is}
 
 -- a line, or a limit, within the limits

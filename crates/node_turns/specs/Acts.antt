@@ -5,8 +5,8 @@ use Rattle.mesh_of_code.specs.Coded.{Placed}
 use Rattle.node_semantics.specs.Node as N
 use Rattle.node_semantics.specs.Node.{NodeActed}
 use Rattle.rendezvous_protocol.specs.Packets.{numbered}
-use Rattle.node_turns.specs.ActOf.{Act}
-use Rattle.node_turns.specs.ActOf as A
+use Rattle.node_acts.specs.ActOf.{Act}
+use Rattle.node_acts.specs.ActOf as A
 use Rattle.node_state.specs.NodeOf.{NodeOf}
 
 -- The outcome is the act of the definition: nothing, a line with the packet that leaves, or a limit. The node is then

@@ -3,12 +3,7 @@
 //! Does not know: packets that arrive, links and other nodes.
 #![tactic(auto)]
 
-mod acts;
 mod making;
-mod serving;
 mod turn;
-mod types;
 
-pub use acts::{deliver_to, name_of, no_cell, settle_if_out, step};
 pub use turn::{first_ready, turn_of};
-pub use types::{Act, NodePlan, StepOutput, TurnOutcome};

@@ -9,12 +9,11 @@ ghost use Rattle.node_heap.specs.Heaps.{object_at};
 ghost use Rattle.node_semantics.specs.Node.{goal_for};
 ghost use Rattle.node_state.specs.OfUnit.{IsOfUnit};
 ghost use Rattle.node_state.specs.Views.{NodeInvariant, node_of};
-ghost use Rattle.node_turns.specs.ActOf.{act_of};
-ghost use Rattle.node_turns.specs.NodeSteps.{IsSet, IsTurned};
+ghost use Rattle.node_acts.specs.ActOf.{act_of};
+ghost use Rattle.node_acts.specs.NodeSteps.{IsSet, IsTurned};
 
-use crate::acts::{name_of, no_cell, step};
-use crate::types::{NodePlan, StepOutput, TurnOutcome};
 use code_semantics::Unit;
+use node_acts::{NodePlan, StepOutput, TurnOutcome, name_of, no_cell, step};
 use node_heap::HeapFull;
 use node_state::NodeParts;
 use rendezvous_protocol::Packet;

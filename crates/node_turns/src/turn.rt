@@ -12,18 +12,19 @@ ghost use Rattle.node_semantics.specs.Node.{arrivals, message_count, turn_act};
 ghost use Rattle.node_semantics.specs.Agrees.{IsUnused};
 ghost use Rattle.node_state.specs.OfUnit.{IsOfPlacement, IsOfUnit};
 ghost use Rattle.node_state.specs.Views.{NodeInvariant, arrivals_of, node_of, slots_of};
-ghost use Rattle.node_turns.specs.ActOf.{act_of};
-ghost use Rattle.node_turns.specs.declared.types.StepOutput.{StepOutput as OneRoom};
+ghost use Rattle.node_acts.specs.ActOf.{act_of};
+ghost use Rattle.node_acts.specs.declared.types.StepOutput.{StepOutput as OneRoom};
 ghost use Rattle.node_turns.specs.Acts.{IsActOf};
-ghost use Rattle.node_turns.specs.NodeSteps.{IsSet, IsTurned, kept};
+ghost use Rattle.node_acts.specs.NodeSteps.{IsSet, IsTurned, kept};
 ghost use Rattle.node_state.specs.Bits.{first_bit_from};
 ghost use Rattle.node_turns.specs.Bits.{bit_in_turn};
 
-use crate::acts::{async_turn, call_turn, fault_turn, name_of, return_turn, write_turn};
 use crate::making::create_turn;
-use crate::serving::choose_turn;
-use crate::types::{NodePlan, Returning, Sending, StepOutput, TurnOutcome};
 use code_semantics::Unit;
+use node_acts::{
+    NodePlan, Returning, Sending, StepOutput, TurnOutcome, async_turn, call_turn, choose_turn,
+    fault_turn, name_of, return_turn, write_turn,
+};
 use node_state::NodeParts;
 use object_interp::{Burst, Need, burst};
 use run_types::{FullKind, Label, Placement, What};

@@ -32,8 +32,8 @@ use Rattle.mesh_routing.specs.Links.{LinksOf}
 use Rattle.node_state.specs.NodeOf.{NodeOf}
 use Rattle.node_state.specs.OfUnit.{IsOfUnit}
 use Rattle.node_turns.specs.Acts.{IsActOf}
-use Rattle.node_turns.specs.ActOf.{Act}
-use Rattle.node_turns.specs.ActOf as T
+use Rattle.node_acts.specs.ActOf.{Act}
+use Rattle.node_acts.specs.ActOf as T
 use Rattle.machine_network.specs.LinkWires.{numbered_link}
 use Rattle.machine_network.proofs.Laws.{leaving_numbered, list_numbered, listed_elsewhere, listed_filled, listed_numbered, pushed_filled, state_there}
 use Rattle.pool_machine.specs.Parts.{NodesInvariant, NodesAreWellFormed, IsDid, machine_from}

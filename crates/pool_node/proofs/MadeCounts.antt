@@ -19,8 +19,8 @@ use Rattle.run_types.specs.Tables.{Each}
 use Rattle.mesh_of_code.specs.Coded.{Placed}
 use Rattle.node_semantics.specs.Node as N
 use Rattle.node_semantics.specs.Node.{Slot, NodeState, NodeActed, NumberedArrival, arrivals, chosen_act, choice_act, create_act, created_for, count_one, deliver, deliver_in, first_on, give_back, goal_here, local_act, local_state, made_own, message_act, message_count, packet_count, frames_in, put_request, put_state, receipt, receipt_act, return_act, room_for, serve_act, settle_number, settled, slot_act, slot_in_turn, steps_of, taken_act, turn_act, turn_of_slot, name_at, set_at, within_node}
-use Rattle.node_turns.specs.ActOf.{Act}
-use Rattle.node_turns.specs.ActOf as A
+use Rattle.node_acts.specs.ActOf.{Act}
+use Rattle.node_acts.specs.ActOf as A
 use Rattle.node_state.specs.NodeOf.{NodeOf}
 use Rattle.node_turns.specs.Acts.{IsActOf}
 

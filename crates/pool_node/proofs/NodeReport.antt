@@ -43,7 +43,8 @@ use Rattle.node_state.specs.OfUnit.{IsOfUnit}
 use Rattle.node_state.specs.Views.{NodeInvariant, tail_of, slots_by, slots_of, node_of, slot_at}
 use Rattle.node_state.specs.Bits.{first_bit, first_bit_from}
 use Rattle.node_state.proofs.Laws.{slots_length, slot_view, kind_seen}
-use Rattle.node_turns.proofs.Laws.{kind_halted, kind_send, messages_seen, bits_first}
+use Rattle.node_acts.proofs.Laws.{kind_halted, kind_send, messages_seen}
+use Rattle.node_turns.proofs.Laws.{bits_first}
 
 pub objects_are : (p : NodeParts) (n : NodeOf) → node_of p ≡ n → length p.heap.objects ≡ length n.state.slots
 objects_are p n e = sym (slots_length p.heap.objects p.outstanding p.faults p.goals p.mailbox.boxes) ∙ ap (λ (z : NodeOf). length z.state.slots) e

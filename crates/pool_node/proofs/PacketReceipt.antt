@@ -32,10 +32,10 @@ use Rattle.node_state.specs.declared.state.NodeParts.{NodeParts}
 use Rattle.node_state.specs.NodeOf.{NodeOf}
 use Rattle.node_state.specs.Views.{arrival_of, slots_of, node_of}
 use Rattle.node_state.specs.Changes.{IsAdded}
-use Rattle.node_turns.specs.NodeSteps.{IsSet, IsLine, IsFull, IsMoved}
+use Rattle.node_acts.specs.NodeSteps.{IsSet, IsLine, IsFull, IsMoved}
 use Rattle.pool_node.specs.SettledNumber.{settled_number}
 use Rattle.node_state.proofs.Laws.{slots_length, below_length}
-use Rattle.node_turns.proofs.Laws.{messages_seen, frames_seen, frames_add, messages_add, within_heap, within_frames, within_cells, moved_line, delivered_length, delivered_frames, delivered_one, messages_settled, lt_not}
+use Rattle.node_acts.proofs.Laws.{messages_seen, frames_seen, frames_add, messages_add, within_heap, within_frames, within_cells, moved_line, delivered_length, delivered_frames, delivered_one, messages_settled, lt_not}
 
 -- the class of a name
 named_step : (n : ℕ) (ks : List ClassCode) (k : NameId) (d : ClassCode) (i : ℕ) → i < length ks

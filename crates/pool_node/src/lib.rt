@@ -9,4 +9,4 @@ mod receipt;
 mod standing;
 
 pub use node::Node;
-pub use node_turns::{Act, NodePlan, StepOutput, TurnOutcome};
+pub use node_acts::{Act, NodePlan, StepOutput, TurnOutcome};

@@ -9,8 +9,8 @@ ghost use Rattle.node_state.specs.Changes.{IsAdded};
 
 use crate::receipt::class_named;
 use code_semantics::Unit;
+use node_acts::name_of;
 use node_state::{NodeParts, ReadySet};
-use node_turns::name_of;
 use rendezvous_protocol::Outstanding;
 use run_types::{Error, List};
 use std::alloc::{AllocError, Global};

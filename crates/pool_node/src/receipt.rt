@@ -11,19 +11,19 @@ ghost use Rattle.node_semantics.specs.Node.{deliver, receipt, receipt_act, messa
 ghost use Rattle.node_semantics.specs.Receives.{IsReceivable};
 ghost use Rattle.rendezvous_protocol.specs.Packets.{numbered};
 ghost use Rattle.node_state.specs.OfUnit.{IsOfPlacement, IsOfUnit};
-ghost use Rattle.node_turns.specs.ActOf.{act_of};
+ghost use Rattle.node_acts.specs.ActOf.{act_of};
 ghost use Rattle.node_turns.specs.Acts.{IsActOf};
 ghost use Rattle.node_state.specs.Views.{NodeInvariant, arrival_of, node_of, slots_of};
-ghost use Rattle.node_turns.specs.NodeSteps.{ReportsAct, IsSet};
+ghost use Rattle.node_acts.specs.NodeSteps.{ReportsAct, IsSet};
 ghost use Rattle.pool_node.specs.SettledNumber.{settled_number};
 
 use code_semantics::Unit;
 use mailbox::Message;
-use node_heap::HeapFull;
-use node_state::NodeParts;
-use node_turns::{
+use node_acts::{
     NodePlan, StepOutput, TurnOutcome, deliver_to, name_of, no_cell, settle_if_out, step,
 };
+use node_heap::HeapFull;
+use node_state::NodeParts;
 use rendezvous_protocol::Packet;
 use run_types::{FullKind, Label, NameId, Placement, Value, What};
 

@@ -8,7 +8,7 @@ use Rattle.node_semantics.specs.Node as N
 use Rattle.node_semantics.specs.Node.{NodeState, NodeActed}
 use Rattle.node_state.specs.NodeOf.{NodeOf}
 use Rattle.node_state.specs.OfUnit.{IsOfPlacement, IsOfUnit}
-use Rattle.node_turns.specs.ActOf as A
+use Rattle.node_acts.specs.ActOf as A
 use Rattle.node_turns.specs.Acts.{IsActOf}
 use Rattle.test_parts.specs.DrivenNode.{IsDriven}
 

@@ -12,8 +12,8 @@ use Rattle.object_interp.specs.declared.types.Hand.TheVariants as H
 use Rattle.object_interp.specs.Offers.{hand_of}
 use Rattle.node_state.specs.Views.{arrivals_of}
 use Rattle.node_state.proofs.Laws.{slot_real}
-use Rattle.node_turns.specs.ActOf.{act_of}
-use Rattle.node_turns.specs.NodeSteps.{IsSet, IsTurned}
+use Rattle.node_acts.specs.ActOf.{act_of}
+use Rattle.node_acts.specs.NodeSteps.{IsSet, IsTurned}
 use Rattle.node_turns.proofs.LocalTurn.{begins_local, local_full, local_made, none_local}
 use Rattle.node_turns.proofs.turn.slot_turn.Goals as goal
 

@@ -1,5 +1,5 @@
 use Rattle.std.proofs.Common.{arith}
-use Rattle.node_turns.specs.ActOf.{act_of}
+use Rattle.node_acts.specs.ActOf.{act_of}
 use Rattle.node_turns.proofs.NodeAct.{turn_slot, begun_set, steps_now, turn_acts}
 use Rattle.node_turns.proofs.turn.step_of.Goals as goal
 

@@ -1,5 +1,5 @@
 use Rattle.std.proofs.Common.{arith}
-use Rattle.node_turns.specs.ActOf.{act_of}
+use Rattle.node_acts.specs.ActOf.{act_of}
 use Rattle.node_turns.proofs.Laws.{made_acts}
 use Rattle.pool_node.proofs.receipt.receipt_of.Goals as goal
 

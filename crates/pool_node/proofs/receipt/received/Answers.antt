@@ -5,8 +5,8 @@ use Rattle.node_semantics.specs.Receives.{IsReceivable}
 use Rattle.rendezvous_protocol.specs.declared.packet.Packet.{Packet}
 use Rattle.rendezvous_protocol.specs.Packets.{numbered}
 use Rattle.node_state.specs.Views.{node_of}
-use Rattle.node_turns.specs.ActOf.{act_of}
-use Rattle.node_turns.specs.NodeSteps.{ReportsAct}
+use Rattle.node_acts.specs.ActOf.{act_of}
+use Rattle.node_acts.specs.NodeSteps.{ReportsAct}
 use Rattle.node_turns.proofs.Laws.{class_below}
 use Rattle.pool_node.proofs.PacketReceipt.{named_there, object_there}
 use Rattle.pool_node.proofs.receipt.received.Goals as goal

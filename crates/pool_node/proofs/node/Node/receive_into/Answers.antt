@@ -3,7 +3,7 @@ use Rattle.mesh_of_code.specs.Coded.{coded}
 use Rattle.rendezvous_protocol.specs.Packets.{numbered}
 use Rattle.node_state.specs.NodeOf.{NodeOf}
 use Rattle.node_state.specs.Views.{node_of}
-use Rattle.node_turns.specs.ActOf.{act_of}
+use Rattle.node_acts.specs.ActOf.{act_of}
 use Rattle.pool_node.proofs.MadeCounts.{made_after}
 use Rattle.pool_node.proofs.node.Node.receive_into.Goals as goal
 

@@ -3,7 +3,7 @@ use Rattle.run_types.specs.Tables.{Each}
 use Rattle.mesh_of_code.specs.Coded.{coded}
 use Rattle.node_state.specs.NodeOf.{NodeOf}
 use Rattle.node_state.specs.Views.{node_of}
-use Rattle.node_turns.specs.ActOf.{act_of}
+use Rattle.node_acts.specs.ActOf.{act_of}
 use Rattle.pool_node.proofs.MadeCounts.{counts_after}
 use Rattle.pool_node.proofs.node.Node.turn_into.Goals as goal
 

@@ -1,0 +1,3 @@
+-- Internal: what it does not.
+pub mod ActOf
+pub mod NodeSteps
