@@ -1,4 +1,3 @@
-pub mod DeclarationParts
 pub mod LeastLaws
 pub mod GrammaticalIsWritten
 pub mod Laws

@@ -3,7 +3,6 @@
 //! Does not know: how a program runs.
 #![tactic(auto)]
 
-mod declarations;
 mod program;
 pub mod theorems;
 

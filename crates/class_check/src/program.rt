@@ -8,7 +8,7 @@ ghost use Rattle.class_check.specs.Least.{IsLeastFault};
 ghost use Rattle.type_check.specs.PairOf.{pair_of};
 ghost use Rattle.type_check.specs.declared.fault.ClassFault.{ClassFault as AFault};
 
-use crate::declarations::classes;
+use declaration_check::classes;
 use pool_syntax::Program;
 use run_types::Names;
 use std::alloc::Global;

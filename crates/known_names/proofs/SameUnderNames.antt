@@ -33,7 +33,7 @@ use Rattle.stepper_terms.specs.Parts.{alternatives, around, behind, bottom, call
 use Rattle.stepper_terms.specs.Parts.{Content, Running, Valued, Over}
 use Rattle.stepper_objects.specs.declared.object_state.ObjectState.{ObjectState}
 use Rattle.stepper_objects.specs.ObjectStates.{thing_object}
-use Rattle.stepper_objects.specs.Acts.{object_with}
+use Rattle.object_acts.specs.Acts.{object_with}
 use Rattle.known_names.specs.OtherNames.{are_other, bindings_are_other, call_is_other, caller_is_other, focus_is_other, guards_are_other, name_is_other, object_is_other, operand_is_other, outer_is_other, place_is_other, places_are_other, ready_is_other, slot_is_other, stage_is_other, task_is_other, value_is_other, work_is_other}
 use Rattle.search_laws.proofs.Laws.{body_nameless, expression_nameless, list_nameless}
 

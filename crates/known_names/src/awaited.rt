@@ -6,9 +6,9 @@ ghost use Rattle.pool_semantics.specs.Mails.{message_of};
 ghost use Rattle.known_names.specs.Awaited.{awaits, is_calling, is_message_other, is_serving, is_state_fit};
 
 use crate::names::{OtherNames, are_values_other};
+use object_acts::act::Act;
 use pool_semantics::Mail;
 use pool_syntax::Program;
-use stepper_objects::act::Act;
 use stepper_objects::object_state::ObjectState;
 
 /// Whether the object of this name has met no error, and is at an `answer` or a `select`.

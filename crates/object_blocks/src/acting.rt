@@ -3,17 +3,17 @@ ghost use Rattle.std.specs.Prelude.{◌≡◌, ◌++◌, ◌∷◌, [], codes, m
 ghost use Rattle.pool_syntax.specs.TreeOf.{program_of};
 ghost use Rattle.pool_relation.specs.Action.{action};
 ghost use Rattle.stepper_objects.specs.ObjectStates.{thing_object};
-ghost use Rattle.stepper_objects.specs.Acts.{acted};
+ghost use Rattle.object_acts.specs.Acts.{acted};
 ghost use Rattle.record_writer.specs.RecordText.{led, object_text, text_at, value_text};
 ghost use Rattle.stepper_terms.specs.Arguments.{now_args, now_choices, now_names};
 ghost use Rattle.term_text.specs.StateText.{action_text, led_names};
 ghost use Rattle.object_blocks.specs.Acting.{values_text};
 
+use object_acts::act::Act;
 use pool_syntax::{Named, Program};
 use record_writer::{push_error, push_item, push_name, push_object, push_value, push_word};
 use run_types::{NameId, Names};
 use std::alloc::AllocError;
-use stepper_objects::act::Act;
 use stepper_objects::object_state::ObjectState;
 use stepper_terms::contexts::{Continuation, Focus, Operand, Ready, Task};
 

@@ -17,7 +17,7 @@ use crate::read::{class_place, last_values, value_at};
 use crate::types::{Hand, Need};
 use code_semantics::{Instr, Unit};
 use node_heap::Heap;
-use run_types::operators::Answer;
+use operators::Answer;
 use run_types::{Error, Item, Op, Serves, Value};
 
 /// A run-time error.

@@ -1,7 +1,7 @@
 //! One instruction, and the silent instructions after it.
 ghost use Rattle.std.specs.Prelude.{◌≡◌, ◌<◌, ◌≤◌, ◌+◌, ◌^◌, ◌≢◌, true, false, suc, [], ◌∷◌, IsTrue, Some, None, IfSome, IfNone, is_some, length, slice_get, take};
 ghost use Rattle.run_types.specs.Values.{is_bool, is_prefix, is_true as holds};
-ghost use Rattle.run_types.specs.Operated.{outcome_of};
+ghost use Rattle.operators.specs.Operated.{outcome_of};
 ghost use Rattle.run_types.specs.declared.frames.Frame.{Frame};
 ghost use Rattle.code_semantics.specs.declared.unit.MethodCode.{MethodCode};
 ghost use Rattle.run_types.specs.Operands.{top, below, dropped, padded};
@@ -20,7 +20,7 @@ ghost use Rattle.object_interp.specs.Tops.{HasTop, class_in, code_in, instr_in, 
 use crate::read::{class_at, code_at, instr_at, last_values, method_place, name_at, value_at};
 use code_semantics::{Instr, MethodCode, Unit};
 use node_heap::{FrameHead, Heap, HeapFull};
-use run_types::operators::{Answer, on_ints, operate, operate_one};
+use operators::{Answer, on_ints, operate, operate_one};
 use run_types::{Args, NameId, Op, Serves, Value};
 
 /// Reports whether a value is true.

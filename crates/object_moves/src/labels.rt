@@ -4,7 +4,7 @@ ghost use Rattle.run_types.specs.Same.{are_same};
 ghost use Rattle.object_moves.specs.Known.{birth_label, duo_label, parcel_label, solo_label};
 
 use crate::known::{Birth, Duo, Pair, Parcel, Solo};
-use run_types::operators::same;
+use operators::same;
 use run_types::{Error, Item, Label, Value};
 use std::hash::{FoldHasher, Hasher};
 

@@ -19,12 +19,12 @@ use crate::labels::{
     same_birth, same_duo, same_pair, same_parcel, same_solo, solo_label,
 };
 use crate::small::{add_both, add_copy, add_with_message, empty, stroll};
+use object_acts::act::Act;
 use pool_semantics::{State, redex_args};
 use pool_syntax::Program;
 use search_states::StateTable;
 use std::alloc::{AllocError, Global};
 use std::collections::HashMap;
-use stepper_objects::act::Act;
 use stepper_objects::object_state::ObjectState;
 
 /// A table of object states of one program, and what some transitions make of them. It finds a transition by its hash,

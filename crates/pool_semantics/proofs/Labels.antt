@@ -15,10 +15,10 @@ use Rattle.pool_syntax.specs.Terms.{Statements, MethodTree, ClassTree, ProgramTr
 use Rattle.pool_relation.specs.Reducible.{Choice, AsStatements, AsExpression}
 use Rattle.pool_relation.specs.Action as A
 use Rattle.stepper_objects.specs.declared.object_state.ObjectState.{ObjectState}
-use Rattle.stepper_objects.specs.declared.change.Change.{Change}
-use Rattle.stepper_objects.specs.declared.act.Act.{Act}
-use Rattle.stepper_objects.specs.declared.act.Act.TheVariants as C
-use Rattle.stepper_objects.specs.declared.change.Change.TheVariants as H
+use Rattle.object_acts.specs.declared.change.Change.{Change}
+use Rattle.object_acts.specs.declared.act.Act.{Act}
+use Rattle.object_acts.specs.declared.act.Act.TheVariants as C
+use Rattle.object_acts.specs.declared.change.Change.TheVariants as H
 use Rattle.pool_relation.specs.Action.{Object, action, method_of}
 use Rattle.run_types.specs.Tables.{Pair}
 use Rattle.run_types.specs.Message.{Message}
@@ -26,7 +26,7 @@ use Rattle.pool_relation.specs.Configuration.{Configuration, object_of, put_obje
 use Rattle.run_types.specs.Partial.{◌>>=◌, ◌>>◌, require}
 use Rattle.pool_relation.specs.Transition.{transition, running, without_fault, local_step, makes, writes, fails, returns, waits_on, calls, posts, offer, has_message, first_message, without_first, serving, picked, refilled, new_object}
 use Rattle.run_types.specs.Same.{are_same, is_same_item, error_number}
-use Rattle.stepper_objects.specs.Acts.{acted, changed, is_local, returns_act, waits_act, calls_act, posts_act}
+use Rattle.object_acts.specs.Acts.{acted, changed, is_local, returns_act, waits_act, calls_act, posts_act}
 use Rattle.stepper_terms.specs.Arguments.{now_args, now_names, now_choices}
 use Rattle.stepper_objects.specs.ObjectStates.{thing_object, things}
 use Rattle.pool_syntax.specs.Terms as T

@@ -21,9 +21,9 @@ use Rattle.pool_relation.specs.Configuration.{Configuration, messages_of}
 use Rattle.pool_relation.specs.Progress.{agent, HasOwnTransition}
 use Rattle.pool_relation.specs.Transition.{Offer, offer, running, has_message, transition}
 use Rattle.stepper_objects.specs.declared.object_state.ObjectState.{ObjectState}
-use Rattle.stepper_objects.specs.declared.act.Act.{Act}
-use Rattle.stepper_objects.specs.declared.act.Act.TheVariants as C
-use Rattle.stepper_objects.specs.Acts.{acted}
+use Rattle.object_acts.specs.declared.act.Act.{Act}
+use Rattle.object_acts.specs.declared.act.Act.TheVariants as C
+use Rattle.object_acts.specs.Acts.{acted}
 use Rattle.stepper_objects.specs.Offers.{offer_act}
 use Rattle.stepper_objects.specs.ObjectStates.{thing_object}
 use Rattle.stepper_terms.specs.Arguments.{now_args, now_names, now_choices}

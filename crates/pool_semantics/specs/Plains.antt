@@ -4,11 +4,11 @@ use Rattle.std.specs.Ordering.{nat_cmp}
 use Rattle.std.specs.BTreeMap.{BTreeMap, get}
 use Rattle.pool_syntax.specs.Terms.{ProgramTree}
 use Rattle.stepper_objects.specs.declared.object_state.ObjectState.{ObjectState}
-use Rattle.stepper_objects.specs.declared.act.Act.{Act}
+use Rattle.object_acts.specs.declared.act.Act.{Act}
 use Rattle.pool_semantics.specs.declared.plain.state.State.{State}
 use Rattle.pool_relation.specs.Action.{action}
 use Rattle.pool_relation.specs.Configuration.{Configuration}
-use Rattle.stepper_objects.specs.Acts.{acted, Suits}
+use Rattle.object_acts.specs.Acts.{acted, Suits}
 use Rattle.stepper_terms.specs.Arguments.{now_args, now_names, now_choices}
 use Rattle.message_queue.specs.Mails.{message_of}
 use Rattle.stepper_objects.specs.ObjectStates.{thing_object, things}

@@ -18,4 +18,3 @@ pub mod LinkTables
 pub mod PathFacts
 pub mod RoutedPlacements
 pub mod GivenProperties
-pub mod Operated

@@ -1,4 +1,4 @@
-//! The types of a run and its record: values, operators, labels, events, lines, placements, names, meshes and their
+//! The types of a run and its record: values, labels, events, lines, placements, names, meshes and their
 //! paths.
 //!
 //! Does not know: programs and the formats of texts.
@@ -9,7 +9,6 @@ mod frames;
 mod list;
 mod names;
 mod object_names;
-pub mod operators;
 mod types;
 mod verdicts;
 

@@ -7,7 +7,7 @@ ghost use Rattle.search_states.specs.Equal.{EqualCall, EqualNow, EqualOuter, Equ
 use crate::contexts::{same_operand, same_places, same_ready, same_rest, same_slot, same_task};
 use crate::expressions::same_expression;
 use crate::statements::same_statements;
-use run_types::operators::same as same_value;
+use operators::same as same_value;
 use stepper_terms::contexts::{Activation, Binding, Continuation, Focus, Stage, SuspendedCall};
 
 #[tactic(auto, using(run_types::proofs::Laws::same_value, run_types::proofs::Laws::value_itself))]

@@ -7,7 +7,7 @@ ghost use Rattle.search_states.specs.Equal.{EqualGuard, EqualPlace, EqualReady, 
 use crate::expressions::{same_expression, same_expressions, same_operator};
 use crate::names::{same_answer, same_named, same_names};
 use crate::statements::{same_alternatives, same_statements};
-use run_types::operators::same as same_value;
+use operators::same as same_value;
 use stepper_terms::contexts::{
     ExpressionContext, Guarded, Operand, Ready, Segment, StatementContext, Task,
 };

@@ -1,2 +1,1 @@
-pub mod EndActions
 pub mod SelectAlternatives

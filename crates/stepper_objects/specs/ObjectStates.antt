@@ -3,7 +3,7 @@ use Rattle.std.specs.Prelude.{ℕ, List, map}
 use Rattle.stepper_objects.specs.declared.object_state.ObjectState.{ObjectState}
 use Rattle.pool_relation.specs.Action.{Object}
 use Rattle.stepper_terms.specs.Parts.{term_of}
-use Rattle.stepper_objects.specs.Acts.{object_with}
+use Rattle.object_acts.specs.Acts.{object_with}
 
 -- the object that t represents
 abbrev pub thing_object : ObjectState → Object

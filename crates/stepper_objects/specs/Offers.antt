@@ -8,8 +8,8 @@ use Rattle.pool_syntax.specs.Terms.{Statements}
 use Rattle.pool_relation.specs.Reducible.{Choice}
 use Rattle.pool_relation.specs.Action as A
 use Rattle.pool_relation.specs.Transition as X
-use Rattle.stepper_objects.specs.declared.act.Act.{Act}
-use Rattle.stepper_objects.specs.declared.act.Act.TheVariants as C
+use Rattle.object_acts.specs.declared.act.Act.{Act}
+use Rattle.object_acts.specs.declared.act.Act.TheVariants as C
 use Rattle.stepper_objects.specs.declared.offers.Offer.{Offer}
 
 -- the offer, if there is one

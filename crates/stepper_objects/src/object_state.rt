@@ -3,12 +3,12 @@ ghost use Rattle.std.specs.Prelude.{◌≡◌, OnOk, IfOk};
 ghost use Rattle.pool_syntax.specs.TreeOf.{program_of, class_tree};
 ghost use Rattle.pool_relation.specs.Action.{action};
 ghost use Rattle.pool_relation.specs.Transition.{new_object};
-ghost use Rattle.stepper_objects.specs.Acts.{acted, changed, Fits, Suits};
+ghost use Rattle.object_acts.specs.Acts.{acted, changed, Fits, Suits};
 ghost use Rattle.stepper_terms.specs.Arguments.{now_args, now_names, now_choices};
 ghost use Rattle.stepper_objects.specs.ObjectStates.{thing_object};
 
-use crate::act::{Act, next_act};
-use crate::change::Change;
+use object_acts::act::{Act, next_act};
+use object_acts::change::Change;
 use pool_syntax::{ClassDecl, Program};
 use run_types::Error;
 use std::alloc::{AllocError, Global};

@@ -9,7 +9,7 @@ ghost use Rattle.stepper_terms.specs.Reduced.{choice, choices};
 ghost use Rattle.stepper_terms.specs.Arguments.{now_names, now_choices};
 ghost use Rattle.stepper_objects.specs.Offers.{offered, work_seen, offer_act};
 
-use crate::act::Act;
+use object_acts::act::Act;
 use pool_syntax::{Named, Stmt};
 use run_types::Value;
 use stepper_terms::contexts::{Continuation, Focus, Guarded, Task};

@@ -3,7 +3,7 @@ ghost use Rattle.std.specs.Prelude.{◌≡◌, ◌∷◌, ◌++◌, [], ◌<◌,
 ghost use Rattle.reachability.specs.Outcomes.{items_of};
 ghost use Rattle.visited_set.specs.WrittenLists.{IsGrown, option_items, parent};
 
-use run_types::operators::same;
+use operators::same;
 use run_types::{Item, Label, Value};
 use std::alloc::{AllocError, Global};
 use std::collections::HashMap;

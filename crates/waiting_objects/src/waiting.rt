@@ -6,14 +6,14 @@ ghost use Rattle.pool_semantics.specs.PlainOf.{configuration_of, program_tree};
 ghost use Rattle.waiting_objects.specs.Waiting.{waiting_at, waiting_in, waiting_now, waiting_row, waiting_rows};
 ghost use Rattle.pool_relation.specs.Action.{action};
 ghost use Rattle.wait_report.specs.Calls.{names_of, Rising};
-ghost use Rattle.stepper_objects.specs.Acts.{acted};
+ghost use Rattle.object_acts.specs.Acts.{acted};
 
+use object_acts::act::Act;
 use pool_semantics::Plain;
 use pool_syntax::Program;
 use run_types::{NameId, Standing};
 use std::alloc::{AllocError, Global};
 use std::collections::BTreeMap;
-use stepper_objects::act::Act;
 use stepper_objects::object_state::ObjectState;
 use wait_report::ObjectRow;
 

@@ -16,13 +16,13 @@ ghost use Rattle.watch_text.specs.Waits.{AreRows, IsReport, IsWaits};
 
 use crate::watched::{Watched, push_stop, push_verdict};
 use class_check::Checked;
+use object_acts::act::Act;
 use pool_semantics::Plain;
 use pool_syntax::Program;
 use record_check::{Mismatch, follow, judge_end, root};
 use run_types::{Line, NameId, Names, Standing};
 use std::alloc::{AllocError, Global};
 use std::collections::{BTreeMap, BTreeSet};
-use stepper_objects::act::Act;
 use stepper_objects::object_state::ObjectState;
 use wait_report::{ObjectRow, put_each_cycle, put_row};
 

@@ -2,7 +2,7 @@
 ghost use Rattle.std.specs.Prelude.{◌≡◌, ◌==◌};
 ghost use Rattle.run_types.specs.Same.{is_same_item, error_number};
 
-use run_types::operators::same;
+use operators::same;
 use run_types::{Error, Item};
 
 /// Whether two written items are the same.

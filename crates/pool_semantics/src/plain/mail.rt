@@ -10,10 +10,10 @@ ghost use Rattle.message_queue.specs.Mails.{message_of, without_of};
 ghost use Rattle.pool_semantics.specs.Mails.{posts, queued};
 
 use message_queue::{Mail, MessageQueue};
+use object_acts::act::Act;
 use run_types::NameId;
 use std::alloc::{AllocError, Global};
 use std::collections::{BTreeMap, VecDeque};
-use stepper_objects::act::Act;
 use stepper_objects::offers::offer_to;
 use stepper_terms::contexts::Continuation;
 

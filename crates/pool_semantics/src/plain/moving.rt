@@ -4,7 +4,7 @@ ghost use Rattle.pool_syntax.specs.TreeOf.{program_of};
 ghost use Rattle.pool_relation.specs.Action.{Object};
 ghost use Rattle.pool_relation.specs.Configuration.{messages_of};
 ghost use Rattle.stepper_terms.specs.Arguments.{now_args, now_names, now_choices};
-ghost use Rattle.stepper_objects.specs.Acts.{acted};
+ghost use Rattle.object_acts.specs.Acts.{acted};
 ghost use Rattle.pool_semantics.specs.Mails.{queued};
 ghost use Rattle.pool_semantics.specs.Moving.{lesser, goes_alone, would_answer, MovesBy, Takes, IsTheOne, IsLeast};
 ghost use Rattle.pool_semantics.specs.Plains.{configuration};
@@ -12,8 +12,8 @@ ghost use Rattle.pool_semantics.specs.Plains.{configuration};
 use crate::plain::mail::any_offered;
 use crate::plain::state::State;
 use message_queue::MessageQueue;
+use object_acts::act::Act;
 use run_types::NameId;
-use stepper_objects::act::Act;
 use stepper_objects::offers::{has_open_plain, offer_to};
 use stepper_terms::contexts::Continuation;
 

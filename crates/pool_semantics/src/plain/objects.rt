@@ -6,14 +6,14 @@ ghost use Rattle.std.specs.BTreeMap.{get, IsUnchanged};
 ghost use Rattle.pool_syntax.specs.TreeOf.{class_tree};
 ghost use Rattle.pool_relation.specs.Transition.{new_object};
 ghost use Rattle.stepper_objects.specs.declared.object_state.ObjectState.{ObjectState};
-ghost use Rattle.stepper_objects.specs.Acts.{changed, Fits};
+ghost use Rattle.object_acts.specs.Acts.{changed, Fits};
 ghost use Rattle.stepper_terms.specs.Arguments.{now_args};
 ghost use Rattle.stepper_objects.specs.ObjectStates.{thing_object, things};
 
+use object_acts::change::Change;
 use pool_syntax::ClassDecl;
 use std::alloc::{AllocError, Global};
 use std::collections::BTreeMap;
-use stepper_objects::change::Change;
 use stepper_objects::object_state::ObjectState;
 
 /// Changes the object of this name, if it exists. Reports `AllocError` if memory runs out; other objects are

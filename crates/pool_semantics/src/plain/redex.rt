@@ -3,11 +3,11 @@ ghost use Rattle.std.specs.Prelude.{◌≡◌, IfSome, IfNone, true, false};
 ghost use Rattle.stepper_terms.specs.Reduced.{values};
 ghost use Rattle.stepper_terms.specs.Arguments.{now_args, now_names, now_choices};
 ghost use Rattle.pool_relation.specs.Action.{Object};
-ghost use Rattle.stepper_objects.specs.Acts.{acted};
+ghost use Rattle.object_acts.specs.Acts.{acted};
 ghost use Rattle.pool_semantics.specs.Shown.{are_at_most_eight, shown};
 
+use object_acts::act::Act;
 use run_types::{Args, Redex};
-use stepper_objects::act::Act;
 use stepper_terms::contexts::{Continuation, Focus, Operand, Ready, Task};
 
 /// The values of these operands. None if they are more than 8.

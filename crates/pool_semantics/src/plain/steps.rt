@@ -10,13 +10,13 @@ use crate::plain::mail::{post, unpost};
 use crate::plain::objects::update;
 use crate::plain::state::State;
 use message_queue::Mail;
+use object_acts::arguments::has_args;
+use object_acts::change::Change;
+use object_acts::lookup::find_method;
+use operators::same;
 use pool_syntax::Named;
-use run_types::operators::same;
 use run_types::{Args, Label, NameId, Value};
 use std::alloc::AllocError;
-use stepper_objects::arguments::has_args;
-use stepper_objects::change::Change;
-use stepper_objects::lookup::find_method;
 use stepper_objects::offers::offer_to;
 
 /// Whether these values are the same, one by one.

@@ -7,7 +7,7 @@ ghost use Rattle.pool_relation.specs.Reducible.{Choice};
 ghost use Rattle.pool_relation.specs.Action.{Object, action};
 ghost use Rattle.pool_relation.specs.Configuration.{object_of};
 ghost use Rattle.reachability.specs.Search.{is_left_over, WaitsAt, StaysAt, HasLeftOver, IsFaulty};
-ghost use Rattle.stepper_objects.specs.Acts.{acted};
+ghost use Rattle.object_acts.specs.Acts.{acted};
 ghost use Rattle.pool_semantics.specs.Moving.{IsTheOne, IsLeast};
 ghost use Rattle.pool_semantics.specs.PlainOf.{configuration_of, program_tree, is_spent};
 ghost use Rattle.pool_semantics.specs.Plains.{configuration};
@@ -16,8 +16,8 @@ ghost use Rattle.pool_semantics.specs.SearchQueries.{call_of, called, WaitsFrom}
 use crate::plain::Plain;
 use crate::plain::moving::lesser;
 use crate::plain::state::State;
+use object_acts::act::Act;
 use run_types::NameId;
-use stepper_objects::act::Act;
 
 /// An object that is at a call or in one, with the receiver and the method of the call.
 #[derive(Clone, Copy)]

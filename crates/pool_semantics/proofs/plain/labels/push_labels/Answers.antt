@@ -4,7 +4,7 @@ use Rattle.pool_relation.specs.Action.{Action, action}
 use Rattle.reachability.specs.Labels.{own_labels}
 use Rattle.stepper_terms.specs.Arguments.{now_args, now_names, now_choices}
 use Rattle.stepper_terms.specs.declared.contexts.Continuation.{Continuation}
-use Rattle.stepper_objects.specs.Acts.{acted}
+use Rattle.object_acts.specs.Acts.{acted}
 use Rattle.stepper_objects.specs.ObjectStates.{thing_object}
 use Rattle.pool_semantics.specs.Shown.{shown}
 use Rattle.pool_semantics.proofs.Alternatives.{few_alternatives}

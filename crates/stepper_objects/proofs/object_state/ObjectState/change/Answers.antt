@@ -1,5 +1,5 @@
 use Rattle.std.proofs.Common.{ap, Result, Ok, Err, OnOk}
-use Rattle.stepper_objects.specs.Acts.{object_with}
+use Rattle.object_acts.specs.Acts.{object_with}
 use Rattle.stepper_objects.proofs.object_state.ObjectState.change.Goals as goal
 
 -- what follows from the result of a call that succeeds

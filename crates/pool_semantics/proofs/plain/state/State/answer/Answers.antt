@@ -9,10 +9,10 @@ use Rattle.pool_relation.specs.Transition.{has_message}
 use Rattle.pool_relation.specs.Configuration.{messages_of}
 use Rattle.stepper_terms.specs.Arguments.{now_args, now_names, now_choices}
 use Rattle.stepper_objects.specs.ObjectStates.{thing_object}
-use Rattle.stepper_objects.specs.ClassesAndMethods.{method_seen}
+use Rattle.object_acts.specs.ClassesAndMethods.{method_seen}
 use Rattle.stepper_objects.specs.Offers.{offered, offer_act}
 use Rattle.pool_semantics.specs.Plains.{configuration}
-use Rattle.stepper_objects.specs.Acts.{calls_act}
+use Rattle.object_acts.specs.Acts.{calls_act}
 use Rattle.pool_semantics.proofs.Labels.{answer_refused, answer_without, answer_made, answer_by_two, answered_none, answered_barred, answered_unknown, answered_some}
 use Rattle.pool_semantics.proofs.plain.state.State.answer.Goals as goal
 

@@ -2,7 +2,7 @@ use Rattle.std.proofs.Common.{◌≡◌, ◌∙◌, ap, sym, refl, is_some, true
 use Rattle.pool_syntax.specs.TreeOf.{program_of}
 use Rattle.pool_relation.proofs.Laws.{running_is}
 use Rattle.stepper_terms.specs.Arguments.{now_args, now_names, now_choices}
-use Rattle.stepper_objects.specs.Acts.{acted}
+use Rattle.object_acts.specs.Acts.{acted}
 use Rattle.stepper_objects.specs.ObjectStates.{thing_object}
 use Rattle.pool_semantics.specs.Plains.{configuration}
 use Rattle.pool_semantics.specs.Shown.{shown}

@@ -1,7 +1,7 @@
 use Rattle.std.proofs.Common.{subst, sym}
 use Rattle.pool_syntax.specs.TreeOf.{program_of}
 use Rattle.stepper_terms.specs.Arguments.{now_args, now_names, now_choices}
-use Rattle.stepper_objects.specs.Acts.{acted}
+use Rattle.object_acts.specs.Acts.{acted}
 use Rattle.stepper_objects.specs.ObjectStates.{thing_object}
 use Rattle.pool_semantics.specs.Plains.{configuration}
 use Rattle.pool_semantics.specs.Moving.{MovesBy, IsTheOne}

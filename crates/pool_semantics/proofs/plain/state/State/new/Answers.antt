@@ -3,7 +3,7 @@ use Rattle.pool_syntax.specs.TreeOf.{program_of, class_tree}
 use Rattle.std.specs.Ordering.{nat_cmp}
 use Rattle.std.specs.BTreeMap.{get}
 use Rattle.std.specs.FinMap.{put}
-use Rattle.stepper_objects.specs.ClassesAndMethods.{class_seen}
+use Rattle.object_acts.specs.ClassesAndMethods.{class_seen}
 use Rattle.pool_syntax.specs.Classes.{class_of}
 use Rattle.pool_relation.specs.Transition.{new_object}
 use Rattle.pool_semantics.specs.Plains.{configuration}

@@ -6,7 +6,7 @@ use Rattle.run_types.specs.Tables.{Pair, pair_cmp, list_at}
 use Rattle.run_types.specs.Same.{are_same}
 use Rattle.stepper_terms.specs.Arguments.{now_args}
 use Rattle.pool_semantics.specs.Plains.{configuration}
-use Rattle.stepper_objects.specs.Acts.{posts_act}
+use Rattle.object_acts.specs.Acts.{posts_act}
 use Rattle.pool_semantics.proofs.PairMessages.{put_last}
 use Rattle.pool_semantics.proofs.Labels.{send_refused, send_nowhere, send_made}
 use Rattle.pool_semantics.proofs.plain.state.State.send.Goals as goal

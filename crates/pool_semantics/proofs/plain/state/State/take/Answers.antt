@@ -10,7 +10,7 @@ use Rattle.run_types.specs.Message.{Message}
 use Rattle.pool_relation.specs.Configuration.{messages_of}
 use Rattle.stepper_terms.specs.Arguments.{now_names, now_choices}
 use Rattle.stepper_objects.specs.ObjectStates.{thing_object}
-use Rattle.stepper_objects.specs.ClassesAndMethods.{method_seen}
+use Rattle.object_acts.specs.ClassesAndMethods.{method_seen}
 use Rattle.message_queue.specs.Mails.{message_of, without_of}
 use Rattle.pool_semantics.specs.Mails.{queued}
 use Rattle.stepper_objects.specs.Offers.{offered, offer_act}

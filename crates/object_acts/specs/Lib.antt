@@ -1,0 +1,3 @@
+-- Internal: what it does not.
+pub mod ClassesAndMethods
+pub mod Acts
