@@ -63,9 +63,9 @@ IsLongAt u p = (names : List NameId) × (names_at u p ≡ Some names) × (64 < l
 abbrev pub place_order : AnswerPlace → AnswerPlace → Ordering
 place_order = (place_ord.ghosts).cmp
 
--- at its place the unit has an answer of these names, which are at most 64
+-- at its place the unit has an answer of more than 64 names, and of these, which are at most 64
 abbrev pub IsLongOf : Code → LongAnswer → Type 0
-IsLongOf u a = (names : List NameId) × (names_at u a.place ≡ Some names) × HasSameNames a.names names × (length a.names ≤ 64)
+IsLongOf u a = (names : List NameId) × (names_at u a.place ≡ Some names) × HasSameNames a.names names × (length a.names ≤ 64) × (64 < length names)
 
 abbrev pub IsListed : List LongAnswer → AnswerPlace → Type 0
 IsListed answers p = (i : ℕ) × (a : LongAnswer) × (slice_get answers i ≡ Some a) × (a.place ≡ p)

@@ -1,4 +1,4 @@
-use Rattle.std.proofs.Common.{◌≤◌, ◌+◌, length, sym, ap, subst, refl, arith}
+use Rattle.std.proofs.Common.{◌<◌, ◌≤◌, ◌+◌, length, sym, ap, subst, refl, arith}
 use Rattle.std.specs.Option.{MatchOption}
 use Rattle.node_state.specs.LongAnswers.{AreLongBefore, HasFewNames, HasSameNames}
 use Rattle.node_state.proofs.LongPlaces.{added, further, none_at, names_of_long}
@@ -18,5 +18,6 @@ pub returns-in-Ok : goal.returns-in-Ok
 returns-in-Ok c = λ u named so_far.
     let names : HasSameNames c.in-Some.names c.items-2.result.now × (length c.in-Some.names ≤ 64) =
     subst (λ r. MatchOption r (¬ (HasFewNames c.items-2.result.now)) (λ once. HasSameNames once c.items-2.result.now × (length once ≤ 64))) c.in-Some.is c.in_ok-names.ensures in
+    let many : 64 < length c.args.names.now = (let all = ap length c.items.ensures in omega (arith, c.if-items-le-FEW.false, all)) in
     subst (AreLongBefore u (record c.args.place { alt = c.args.place.alt + 1 })) (sym c.in-Ok.ensures.ok)
-    (added u c.args.place c.args.found.now (record { place = c.args.place; names = c.in-Some.names }) refl (c.args.names.now, named, subst (λ ns. HasSameNames c.in-Some.names ns) c.items-2.ensures names.0, names.1) so_far)
+    (added u c.args.place c.args.found.now (record { place = c.args.place; names = c.in-Some.names }) refl (c.args.names.now, named, subst (λ ns. HasSameNames c.in-Some.names ns) c.items-2.ensures names.0, names.1, many) so_far)
