@@ -1,14 +1,1 @@
-pub mod Empty
 pub mod Front
-pub mod Indexed
-pub mod Joined
-pub mod Kept
-pub mod Laws
-pub mod Order
-pub mod Places
-pub mod Ranks
-pub mod Removed
-pub mod Search
-pub mod Taken
-pub mod Views
-pub mod Waiting

@@ -1,8 +1,8 @@
 -- A mailbox with early messages: the first messages of each slot, in front of the others.
 use Rattle.std.specs.Prelude.{◌≡◌, ℕ, ◌+◌, ◌^◌, ◌<◌, List, [], ◌∷◌, ◌++◌, length}
 use Rattle.cell_pool.specs.Lists.{Pool}
-use Rattle.mailbox.specs.declared.Message.{Message}
-use Rattle.mailbox.specs.Mail.{Mail, lengths}
+use Rattle.slot_queues.specs.declared.Message.{Message}
+use Rattle.slot_queues.specs.Mail.{Mail, lengths}
 
 -- each list of the first lists, and behind it the one of the second lists at its place
 abbrev pub append_each : {X : Type 0} → List (List X) → List (List X) → List (List X)

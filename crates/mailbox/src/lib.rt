@@ -5,36 +5,15 @@
 
 ghost use Rattle.std.specs.Prelude.{◌≡◌, ◌<◌, ◌≤◌, [], ◌∷◌, ◌++◌, ◌↔◌, length, true, get_or, position, remove, replicate, slice_get, is_some, Some, IsErr, OnOk, IfErr, IfOk};
 ghost use Rattle.cell_pool.specs.Lists.{free_of, list_of, with_list};
-ghost use Rattle.mailbox.specs.declared.Message.{Message as OneMessage};
-ghost use Rattle.mailbox.specs.Mail.{mail, lengths, box_of, with_box, is_named, IsTaken};
-
-mod behind;
-mod lanes;
-mod queues;
+ghost use Rattle.slot_queues.specs.declared.Message.{Message as OneMessage};
+ghost use Rattle.slot_queues.specs.Mail.{mail, lengths, box_of, with_box, is_named, IsTaken};
 
 use cell_pool::CellPool;
-use lanes::is_one_of;
-use run_types::{Args, List, NameId};
+use run_types::{List, NameId};
+pub use slot_queues::Message;
+use slot_queues::{Behind, is_one_of};
 use std::alloc::{AllocError, Global};
 use std::marker::Model;
-
-// A crate can name a mailbox in a contract only if the types of its fields are exported.
-#[doc(hidden)]
-pub use behind::Behind;
-#[doc(hidden)]
-pub use lanes::{Lanes, Stamped};
-#[doc(hidden)]
-pub use queues::Queues;
-
-/// A message to an object. `from` is the sender's name. `call` is the request number of a synchronous call, and None
-/// for an asynchronous message.
-#[derive(Clone, Copy)]
-pub struct Message {
-    pub from: u32,
-    pub method: NameId,
-    pub args: Args,
-    pub call: Option<u32>,
-}
 
 /// The messages of all objects of a node, in a fixed number of cells, of which `free` are in no use. Slots are numbered
 /// from 0. The first messages of a slot are in its early list, and the later ones behind. Only `make` allocates.
@@ -49,8 +28,8 @@ pub struct Mailbox {
 const EARLY: usize = 8;
 
 impl Model for Mailbox {
-    ghost use Rattle.mailbox.specs.declared.Message.{Message as OneMessage};
-    ghost use Rattle.mailbox.specs.Mail.{Mail, mail};
+    ghost use Rattle.slot_queues.specs.declared.Message.{Message as OneMessage};
+    ghost use Rattle.slot_queues.specs.Mail.{Mail, mail};
 
     ghost Value = { Mail OneMessage };
 

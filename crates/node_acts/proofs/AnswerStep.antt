@@ -42,8 +42,8 @@ use Rattle.node_semantics.specs.Node as N
 use Rattle.node_semantics.specs.Node.{Slot, NodeState, NodeActed, NumberedArrival, arrivals, choice_act, chosen_act, first_on, frames_in, is_on, message_count, name_at, put_state, serve_act, set_at, slot_act, taken_act, within_node}
 use Rattle.node_semantics.proofs.Laws.{set_length}
 use Rattle.node_state.proofs.Laws.{slots_length, no_outcome, no_branch, no_return, no_send, no_async, same_names, possible_is, choosing_kind, slot_real, kind_seen, served_is, numbers_serving}
-use Rattle.mailbox.specs.declared.Message.{Message}
-use Rattle.mailbox.specs.Mail.{box_of, is_named}
+use Rattle.slot_queues.specs.declared.Message.{Message}
+use Rattle.slot_queues.specs.Mail.{box_of, is_named}
 use Rattle.node_state.specs.declared.state.NodeParts.{NodeParts}
 use Rattle.node_acts.specs.ActOf as A
 use Rattle.node_state.specs.Views.{arrival_of, arrivals_of, number_by, slots_of, node_of, slot_at}

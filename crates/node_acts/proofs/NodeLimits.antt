@@ -17,8 +17,8 @@ use Rattle.code_semantics.specs.OfUnit.{AreFramesOf}
 use Rattle.code_semantics.specs.Forget.{forget_frame}
 use Rattle.code_semantics.specs.StepInstructions.{FitsUnit}
 use Rattle.node_heap.specs.Heaps.{frames_of, frames_used, object_at, no_object}
-use Rattle.mailbox.specs.declared.Message.{Message}
-use Rattle.mailbox.specs.Mail.{lengths}
+use Rattle.slot_queues.specs.declared.Message.{Message}
+use Rattle.slot_queues.specs.Mail.{lengths}
 use Rattle.mesh_of_code.specs.Coded.{Placed, coded, under_way}
 use Rattle.mesh_semantics.specs.Language.{Language}
 use Rattle.run_types.proofs.Laws.{same_some}

@@ -14,8 +14,8 @@ use Rattle.code_semantics.specs.declared.unit.Unit.{Unit as Code}
 use Rattle.code_semantics.specs.Kinds as C
 use Rattle.code_semantics.specs.Kinds.{code_kind}
 use Rattle.node_heap.specs.Heaps.{object_at}
-use Rattle.mailbox.specs.declared.Message.{Message}
-use Rattle.mailbox.specs.Mail.{lengths}
+use Rattle.slot_queues.specs.declared.Message.{Message}
+use Rattle.slot_queues.specs.Mail.{lengths}
 use Rattle.mesh_of_code.specs.Coded.{Placed, coded, under_way}
 use Rattle.run_types.specs.ObjectNames as D
 use Rattle.run_types.proofs.Laws.{equal, equals}

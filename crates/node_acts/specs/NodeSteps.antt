@@ -15,7 +15,7 @@ use Rattle.node_semantics.specs.Node.{NodeActed, NodeState, message_act, message
 use Rattle.node_semantics.specs.Agrees.{IsUnused}
 use Rattle.mesh_semantics.specs.Delay as D
 use Rattle.run_types.specs.ObjectNames as DObjectNames
-use Rattle.mailbox.specs.declared.Message.{Message}
+use Rattle.slot_queues.specs.declared.Message.{Message}
 use Rattle.node_heap.specs.Heaps.{frames_used}
 use Rattle.rendezvous_protocol.specs.declared.packet.Packet.{Packet}
 use Rattle.rendezvous_protocol.specs.Packets.{numbered}

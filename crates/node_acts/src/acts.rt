@@ -9,7 +9,7 @@ ghost use Rattle.run_types.specs.ObjectNames as D;
 ghost use Rattle.node_heap.specs.Heaps.{object_at};
 ghost use Rattle.node_semantics.specs.Node.{deliver, message_count, name_at, settled};
 ghost use Rattle.mesh_of_code.specs.Coded.{coded};
-ghost use Rattle.mailbox.specs.Mail.{lengths};
+ghost use Rattle.slot_queues.specs.Mail.{lengths};
 ghost use Rattle.node_state.specs.OfUnit.{IsOfUnit};
 ghost use Rattle.node_state.specs.Views.{NodeInvariant, arrival_of, node_of, slots_of};
 ghost use Rattle.node_acts.specs.ActOf as A;

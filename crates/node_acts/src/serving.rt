@@ -2,7 +2,7 @@
 ghost use Rattle.std.specs.Prelude.{◌≡◌, ℕ, ◌<◌, true, None, Some, is_some, length, get_or};
 ghost use Rattle.code_semantics.specs.Kinds.{code_kind};
 ghost use Rattle.node_heap.specs.Heaps.{object_at};
-ghost use Rattle.mailbox.specs.Mail.{box_of};
+ghost use Rattle.slot_queues.specs.Mail.{box_of};
 ghost use Rattle.object_interp.specs.Offers.{IsChoosing, offer_at, offers_at, open_names};
 ghost use Rattle.node_state.specs.Choices.{first_of_these, place_called};
 ghost use Rattle.node_acts.specs.ActOf.{act_of};

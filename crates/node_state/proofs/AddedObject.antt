@@ -18,8 +18,8 @@ use Rattle.run_types.specs.Tables.{Each}
 use Rattle.run_types.proofs.Laws.{decide, same_some}
 use Rattle.node_heap.specs.Heaps.{HeapOf, object_at, put_object, no_object, unbegun, body_frame}
 use Rattle.object_interp.specs.SettledObject.{settled_at}
-use Rattle.mailbox.specs.declared.Message.{Message}
-use Rattle.mailbox.specs.Mail.{box_of}
+use Rattle.slot_queues.specs.declared.Message.{Message}
+use Rattle.slot_queues.specs.Mail.{box_of}
 use Rattle.mesh_of_code.specs.Coded as E
 use Rattle.mesh_of_code.specs.Coded.{Placed, coded}
 use Rattle.node_semantics.specs.Node.{Slot, can_go, fresh_slot, name_at, placed}

@@ -2,8 +2,8 @@
 use Rattle.std.specs.Prelude.{ℕ, List, Option, slice_set}
 use Rattle.run_types.specs.declared.types.Error.{Error}
 use Rattle.run_types.specs.declared.frames.CodeObject.{CodeObject}
-use Rattle.mailbox.specs.declared.Message.{Message}
-use Rattle.mailbox.specs.Mail.{with_box}
+use Rattle.slot_queues.specs.declared.Message.{Message}
+use Rattle.slot_queues.specs.Mail.{with_box}
 use Rattle.node_heap.specs.Heaps.{put_object}
 use Rattle.node_state.specs.declared.state.NodeParts.{NodeParts}
 

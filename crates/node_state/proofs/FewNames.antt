@@ -6,7 +6,7 @@ use Rattle.std.proofs.lemmas.Bool.{eqb-true, eq-eqb}
 use Rattle.std.proofs.lemmas.List.{length-append, get_or_default}
 use Rattle.std.proofs.lemmas.List.Folds.{list_any-append, list_any_more}
 use Rattle.run_types.specs.declared.types.NameId.{NameId}
-use Rattle.mailbox.specs.Mail.{is_named}
+use Rattle.slot_queues.specs.Mail.{is_named}
 use Rattle.node_state.specs.LongAnswers.{HasSameNames, HasFewNames}
 
 -- no name is in it twice

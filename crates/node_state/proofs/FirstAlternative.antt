@@ -3,7 +3,7 @@ use Rattle.std.proofs.Common.{◌≡◌, refl, sym, ap, subst, ◌∙◌, ℕ, z
 use Rattle.std.specs.Prelude.{slice_get}
 use Rattle.code_semantics.specs.Kinds.{Offered}
 use Rattle.object_interp.specs.Offers.{offer_at}
-use Rattle.mailbox.specs.declared.Message.{Message}
+use Rattle.slot_queues.specs.declared.Message.{Message}
 use Rattle.node_state.specs.Choices.{may_go, first_of_these}
 
 choose_step : (box : List Message) (n : ℕ) (os : List Offered) (i : ℕ) → i < length os

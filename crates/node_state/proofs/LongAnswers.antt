@@ -16,8 +16,8 @@ use Rattle.code_semantics.specs.Frames.{code_of}
 use Rattle.code_semantics.specs.Kinds.{offers}
 use Rattle.node_heap.specs.Heaps.{top_in}
 use Rattle.object_interp.specs.Offers.{offer_at, offers_at, frames_offers, instr_offers, open_names, answers_to}
-use Rattle.mailbox.specs.declared.Message.{Message}
-use Rattle.mailbox.specs.Mail.{is_named}
+use Rattle.slot_queues.specs.declared.Message.{Message}
+use Rattle.slot_queues.specs.Mail.{is_named}
 use Rattle.node_state.specs.declared.long.LongAnswer.{LongAnswer}
 use Rattle.node_state.specs.Choices.{is_called, place_called}
 use Rattle.node_state.specs.LongAnswers.{answered, names_in, names_at, place_in, HasSameNames, IsLongOf, IsSameAnswer}

@@ -34,8 +34,8 @@ use Rattle.mesh_semantics.specs.Act.{first_arrival, is_possible, can_step}
 use Rattle.mesh_of_code.specs.Coded as E
 use Rattle.mesh_of_code.specs.Coded.{numbers, alternatives_of, kind_of}
 use Rattle.node_semantics.specs.Node.{arrivals}
-use Rattle.mailbox.specs.declared.Message.{Message}
-use Rattle.mailbox.specs.Mail.{is_named}
+use Rattle.slot_queues.specs.declared.Message.{Message}
+use Rattle.slot_queues.specs.Mail.{is_named}
 use Rattle.node_state.specs.Views.{arrivals_of}
 use Rattle.node_state.specs.Choices.{may_go, first_of_these}
 

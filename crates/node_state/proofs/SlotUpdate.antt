@@ -11,7 +11,7 @@ use Rattle.code_semantics.specs.Forget.{forget_kind}
 use Rattle.code_semantics.specs.StepInstructions.{FitsUnit, IsAtStep, AnyValue}
 use Rattle.code_semantics.proofs.Laws.{forget_of, forget_at_step, forget_code_kind}
 use Rattle.node_heap.specs.Heaps.{object_at, no_object}
-use Rattle.mailbox.specs.declared.Message.{Message}
+use Rattle.slot_queues.specs.declared.Message.{Message}
 use Rattle.mesh_of_code.specs.Coded.{Placed, coded, kind_of}
 use Rattle.run_types.proofs.Laws.{decide, same_some}
 use Rattle.node_semantics.specs.Node.{Slot, NodeState, can_go, name_at, set_at, placed}

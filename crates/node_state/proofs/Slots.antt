@@ -6,7 +6,7 @@ use Rattle.run_types.specs.declared.frames.CodeObject.{CodeObject}
 use Rattle.node_heap.specs.Heaps.{no_object}
 use Rattle.mesh_of_code.specs.Coded.{Placed}
 use Rattle.node_semantics.specs.Node.{Slot, set_at, placed}
-use Rattle.mailbox.specs.declared.Message.{Message}
+use Rattle.slot_queues.specs.declared.Message.{Message}
 use Rattle.node_state.specs.Views.{slot_by, slots_by, head_or, tail_of}
 
 pub slot_here : (xs : List CodeObject) (os : List (Option ℕ)) (fs : List (Option Error)) (gs : List ℕ) (bs : List (List Message)) (i : ℕ) → i < length xs

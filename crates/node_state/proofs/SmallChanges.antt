@@ -20,8 +20,8 @@ use Rattle.code_semantics.specs.Forget.{forget, forget_serves}
 use Rattle.code_semantics.specs.StepInstructions.{FitsUnit, IsAtStep}
 use Rattle.code_semantics.proofs.Laws.{forget_given, forget_gone_on, forget_picked, forget_serving}
 use Rattle.node_heap.specs.Heaps.{HeapOf, object_at, put_object, no_object}
-use Rattle.mailbox.specs.declared.Message.{Message}
-use Rattle.mailbox.specs.Mail.{Mail, box_of, with_box}
+use Rattle.slot_queues.specs.declared.Message.{Message}
+use Rattle.slot_queues.specs.Mail.{Mail, box_of, with_box}
 use Rattle.mesh_of_code.specs.Coded.{Placed, coded, kind_of}
 use Rattle.node_semantics.specs.Node.{Slot, NumberedArrival, name_at}
 use Rattle.mesh_semantics.specs.Requests.{posts_request, is_at_once}

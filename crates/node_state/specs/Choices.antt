@@ -3,8 +3,8 @@ use Rattle.std.specs.Prelude.{ℕ, ◌+◌, List, [], ◌∷◌, Option, Some, N
 use Rattle.run_types.specs.declared.types.NameId.{NameId}
 use Rattle.code_semantics.specs.Kinds.{Offered}
 use Rattle.object_interp.specs.Offers.{is_open_plain, open_names}
-use Rattle.mailbox.specs.declared.Message.{Message}
-use Rattle.mailbox.specs.Mail.{is_named}
+use Rattle.slot_queues.specs.declared.Message.{Message}
+use Rattle.slot_queues.specs.Mail.{is_named}
 
 -- whether a message calls one of the methods
 abbrev pub is_called : List Message → Option (List NameId) → Bool

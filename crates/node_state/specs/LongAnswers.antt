@@ -11,7 +11,7 @@ use Rattle.code_semantics.specs.declared.unit.Instr.TheVariants as I
 use Rattle.code_semantics.specs.declared.unit.Unit.{Unit as Code}
 use Rattle.code_semantics.specs.Frames.{code_of}
 use Rattle.node_heap.specs.Heaps.{top_in}
-use Rattle.mailbox.specs.Mail.{is_named}
+use Rattle.slot_queues.specs.Mail.{is_named}
 use Rattle.node_state.specs.declared.long.AnswerPlace.{AnswerPlace}
 use Rattle.node_state.specs.declared.long.LongAnswer.{LongAnswer}
 use Rattle.node_state.specs.contracts.long.AnswerPlaceOrd.TheImpl as place_ord

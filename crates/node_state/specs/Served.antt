@@ -5,8 +5,8 @@ use Rattle.code_semantics.specs.declared.unit.Unit.{Unit as Code}
 use Rattle.code_semantics.specs.Step.{code_serving}
 use Rattle.code_semantics.specs.Forget.{forget}
 use Rattle.node_heap.specs.Heaps.{object_at}
-use Rattle.mailbox.specs.declared.Message.{Message}
-use Rattle.mailbox.specs.Mail.{box_of}
+use Rattle.slot_queues.specs.declared.Message.{Message}
+use Rattle.slot_queues.specs.Mail.{box_of}
 use Rattle.node_state.specs.declared.state.NodeParts.{NodeParts}
 use Rattle.node_state.specs.Views.{arrivals_of, number_by, slot_at}
 use Rattle.node_state.specs.Changes.{IsChanged, serves_for_call}

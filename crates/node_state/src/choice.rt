@@ -2,7 +2,7 @@
 ghost use Rattle.std.specs.Prelude.{◌≡◌, ◌<◌, length};
 ghost use Rattle.code_semantics.specs.Proper.{IsProper};
 ghost use Rattle.code_semantics.specs.StepInstructions.{FitsUnit, IsAtStep};
-ghost use Rattle.mailbox.specs.Mail.{box_of};
+ghost use Rattle.slot_queues.specs.Mail.{box_of};
 ghost use Rattle.node_heap.specs.Heaps.{object_at};
 ghost use Rattle.object_interp.specs.Offers.{offer_at, offers_at};
 ghost use Rattle.node_state.specs.Choices.{first_of_these, may_go};

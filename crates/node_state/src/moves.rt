@@ -10,7 +10,7 @@ ghost use Rattle.code_semantics.specs.Forget.{forget};
 ghost use Rattle.object_interp.specs.Offers.{IsChoosing, IsSelecting, is_open_plain, offer_at, offers_at, open_names};
 ghost use Rattle.mesh_of_code.specs.Coded.{coded, kind_of, placed};
 ghost use Rattle.node_heap.specs.Heaps.{frames_used, object_at};
-ghost use Rattle.mailbox.specs.Mail.{box_of, lengths};
+ghost use Rattle.slot_queues.specs.Mail.{box_of, lengths};
 ghost use Rattle.node_semantics.specs.Node.{name_at};
 ghost use Rattle.node_semantics.specs.Agrees.{IsUnused};
 ghost use Rattle.mesh_semantics.specs.Requests.{is_at_once, posts_request};

@@ -6,7 +6,7 @@ ghost use Rattle.code_semantics.specs.Kinds.{code_kind};
 ghost use Rattle.mesh_semantics.specs.Act.{can_step};
 ghost use Rattle.node_semantics.specs.Node.{arrivals, can_go};
 ghost use Rattle.mesh_of_code.specs.Coded.{coded, kind_of};
-ghost use Rattle.mailbox.specs.Mail.{box_of};
+ghost use Rattle.slot_queues.specs.Mail.{box_of};
 ghost use Rattle.node_heap.specs.Heaps.{object_at};
 ghost use Rattle.node_state.specs.LongAnswers.{AreLongOf};
 ghost use Rattle.node_state.specs.Views.{arrivals_of, refreshed, slot_at};

@@ -6,7 +6,7 @@ use Rattle.run_types.specs.declared.types.Placement.{Placement}
 use Rattle.code_semantics.specs.declared.unit.Unit.{Unit as Code}
 use Rattle.code_semantics.specs.Kinds.{code_kind}
 use Rattle.node_heap.specs.Heaps.{object_at, frames_used}
-use Rattle.mailbox.specs.Mail.{box_of}
+use Rattle.slot_queues.specs.Mail.{box_of}
 use Rattle.mesh_of_code.specs.Coded.{Placed, coded, kind_of}
 use Rattle.mesh_semantics.specs.Act.{can_step}
 use Rattle.run_types.proofs.Laws.{same_some}

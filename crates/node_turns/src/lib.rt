@@ -3,7 +3,6 @@
 //! Does not know: packets that arrive, links and other nodes.
 #![tactic(auto)]
 
-mod making;
 mod turn;
 
 pub use turn::{first_ready, turn_of};

@@ -5,7 +5,7 @@ ghost use Rattle.node_heap.specs.Heaps.{object_at};
 ghost use Rattle.run_types.specs.Tables.{Each};
 ghost use Rattle.mesh_semantics.specs.Act.{can_step};
 ghost use Rattle.mesh_of_code.specs.Coded.{coded, kind_of};
-ghost use Rattle.mailbox.specs.Mail.{box_of};
+ghost use Rattle.slot_queues.specs.Mail.{box_of};
 ghost use Rattle.object_interp.specs.declared.types.Hand.TheVariants as H;
 ghost use Rattle.object_interp.specs.Offers.{hand_of};
 ghost use Rattle.node_semantics.specs.Node.{arrivals, message_count, turn_act};
@@ -19,12 +19,12 @@ ghost use Rattle.node_acts.specs.NodeSteps.{IsSet, IsTurned, kept};
 ghost use Rattle.node_state.specs.Bits.{first_bit_from};
 ghost use Rattle.node_turns.specs.Bits.{bit_in_turn};
 
-use crate::making::create_turn;
 use code_semantics::Unit;
 use node_acts::{
     NodePlan, Returning, Sending, StepOutput, TurnOutcome, async_turn, call_turn, choose_turn,
     fault_turn, name_of, return_turn, write_turn,
 };
+use node_making::create_turn;
 use node_state::NodeParts;
 use object_interp::{Burst, Need, burst};
 use run_types::{FullKind, Label, Placement, What};

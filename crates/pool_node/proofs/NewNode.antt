@@ -7,8 +7,8 @@ use Rattle.code_semantics.specs.declared.unit.Unit.{Unit as Code}
 use Rattle.mesh_of_code.specs.Coded.{class_numbers, coded}
 use Rattle.node_semantics.specs.Machine.{empty_node}
 use Rattle.node_state.specs.declared.state.NodeParts.{NodeParts}
-use Rattle.mailbox.specs.Mail.{Mail, box_of, mail}
-use Rattle.mailbox.specs.declared.Message.{Message}
+use Rattle.slot_queues.specs.Mail.{Mail, box_of, mail}
+use Rattle.slot_queues.specs.declared.Message.{Message}
 use Rattle.run_types.specs.declared.types.Error.{Error}
 use Rattle.node_state.specs.Views.{NodeInvariant, node_of, slots_by}
 

@@ -26,8 +26,8 @@ use Rattle.run_types.specs.declared.frames.CodeObject.{CodeObject}
 use Rattle.code_semantics.specs.declared.unit.Unit.{Unit as Code}
 use Rattle.code_semantics.specs.NodeWords.{most_vars}
 use Rattle.node_heap.specs.Heaps.{object_at}
-use Rattle.mailbox.specs.declared.Message.{Message}
-use Rattle.mailbox.specs.Mail.{lengths}
+use Rattle.slot_queues.specs.declared.Message.{Message}
+use Rattle.slot_queues.specs.Mail.{lengths}
 use Rattle.mesh_of_code.specs.Coded.{Placed, coded, class_numbers, kind_of, last_code}
 use Rattle.mesh_semantics.specs.Act.{can_step, first_of}
 use Rattle.mesh_semantics.specs.Delay.{Arrival}

@@ -14,8 +14,8 @@ use Rattle.run_types.specs.declared.frames.CodeObject.{CodeObject}
 use Rattle.code_semantics.specs.declared.unit.Unit.{Unit as Code}
 use Rattle.code_semantics.specs.Step.{class_from, code_placed, placed_at, placed_of}
 use Rattle.node_heap.specs.Heaps.{frames_used}
-use Rattle.mailbox.specs.declared.Message.{Message}
-use Rattle.mailbox.specs.Mail.{lengths}
+use Rattle.slot_queues.specs.declared.Message.{Message}
+use Rattle.slot_queues.specs.Mail.{lengths}
 use Rattle.mesh_of_code.specs.Coded as E
 use Rattle.mesh_of_code.specs.Coded.{Placed, coded, class_numbers, under_way}
 use Rattle.mesh_semantics.specs.Delay as D

@@ -9,7 +9,7 @@ ghost use Rattle.pool_node.specs.Standings.{chosen_standing, told_standing};
 ghost use Rattle.code_semantics.specs.Kinds.{code_kind};
 ghost use Rattle.object_interp.specs.Offers.{IsChoosing};
 ghost use Rattle.node_heap.specs.Heaps.{object_at};
-ghost use Rattle.mailbox.specs.Mail.{box_of};
+ghost use Rattle.slot_queues.specs.Mail.{box_of};
 ghost use Rattle.mesh_semantics.specs.Act.{can_step};
 ghost use Rattle.node_state.specs.OfUnit.{IsOfUnit};
 ghost use Rattle.node_state.specs.Views.{NodeInvariant, arrivals_of, node_of, slot_at, slots_of};

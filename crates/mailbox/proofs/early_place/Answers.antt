@@ -1,6 +1,6 @@
 use Rattle.std.proofs.Common.{rules}
-use Rattle.mailbox.specs.Mail.{is_named}
-use Rattle.mailbox.specs.declared.Message.{Message}
+use Rattle.slot_queues.specs.Mail.{is_named}
+use Rattle.slot_queues.specs.declared.Message.{Message}
 use Rattle.std.proofs.Common.{Bool}
 use Rattle.cell_pool.proofs.Laws.{first_is_position}
 use Rattle.mailbox.proofs.early_place.Goals as goal

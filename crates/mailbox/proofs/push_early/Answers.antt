@@ -1,5 +1,5 @@
 use Rattle.std.proofs.Common.{IsErr, arith}
-use Rattle.mailbox.proofs.Front.{on_ok}
+use Rattle.slot_queues.proofs.Laws.{on_ok}
 use Rattle.mailbox.proofs.push_early.Goals as goal
 
 pub returns : goal.returns

@@ -1,7 +1,7 @@
 use Rattle.std.proofs.Common.{◌≡◌, ℕ, ◌+◌, ◌<◌, ◌^◌, List, [], get_or, position, Some, sym, ap, ◌∙◌, subst}
 use Rattle.run_types.specs.declared.types.NameId.{NameId}
-use Rattle.mailbox.specs.Mail.{is_named}
-use Rattle.mailbox.specs.declared.Message.{Message}
+use Rattle.slot_queues.specs.Mail.{is_named}
+use Rattle.slot_queues.specs.declared.Message.{Message}
 use Rattle.mailbox.proofs.Front.{slot_early, slot_behind, place_early, place_behind, place_nowhere, place_fits, behind_below}
 use Rattle.mailbox.proofs.Mailbox.first.Goals as goal
 

@@ -1,5 +1,5 @@
 use Rattle.std.proofs.Common.{◌≡◌, ◌<◌, length, arith, refl}
-use Rattle.mailbox.specs.Mail.{box_of}
+use Rattle.slot_queues.specs.Mail.{box_of}
 use Rattle.mailbox.proofs.Front.{most, total, early_room, behind_room, slot_early, slot_behind, post_early_front, post_early_view, post_behind_front, post_behind_view, space}
 use Rattle.mailbox.proofs.Mailbox.post.Goals as goal
 

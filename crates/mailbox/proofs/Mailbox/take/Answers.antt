@@ -1,5 +1,5 @@
 use Rattle.std.proofs.Common.{ℕ, ◌-◌, ◌<◌, ◌≤◌, [], length, get_or, remove, slice_get, sym, ap, ◌∙◌, subst, arith}
-use Rattle.mailbox.specs.Mail.{box_of, with_box}
+use Rattle.slot_queues.specs.Mail.{box_of, with_box}
 use Rattle.mailbox.proofs.Front.{slot_early, slot_behind, more_free, take_early_front, take_early_message, take_early_view, take_behind_place, take_behind_front, take_behind_message, take_behind_view}
 use Rattle.mailbox.proofs.Mailbox.take.Goals as goal
 

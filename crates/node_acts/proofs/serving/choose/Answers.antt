@@ -3,7 +3,7 @@ use Rattle.run_types.specs.declared.types.Label.TheVariants as L
 use Rattle.run_types.specs.declared.types.What.TheVariants as W
 use Rattle.node_heap.specs.Heaps.{object_at}
 use Rattle.object_interp.specs.Offers.{offer_at, offers_at, open_names}
-use Rattle.mailbox.specs.Mail.{box_of}
+use Rattle.slot_queues.specs.Mail.{box_of}
 use Rattle.node_state.specs.Choices.{place_called}
 use Rattle.node_state.proofs.Laws.{slot_real}
 use Rattle.node_acts.proofs.AnswerStep.{pick_made, some_way, is_called_since}

@@ -4,8 +4,8 @@ use Rattle.run_types.specs.declared.types.What.TheVariants as W
 use Rattle.run_types.proofs.Laws.{same_some}
 use Rattle.node_heap.specs.Heaps.{object_at}
 use Rattle.object_interp.specs.Offers.{offer_at, offers_at, open_names}
-use Rattle.mailbox.specs.declared.Message.{Message}
-use Rattle.mailbox.specs.Mail.{box_of}
+use Rattle.slot_queues.specs.declared.Message.{Message}
+use Rattle.slot_queues.specs.Mail.{box_of}
 use Rattle.node_semantics.specs.Node.{name_at}
 use Rattle.node_state.specs.Choices.{place_called}
 use Rattle.node_acts.specs.NodeSteps.{taken_label}

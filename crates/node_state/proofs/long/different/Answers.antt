@@ -1,6 +1,6 @@
 use Rattle.std.proofs.Common.{◌≡◌, ◌≤◌, ◌+◌, false, length, get_or, take, sym, ap, ◌∙◌, subst}
 use Rattle.run_types.specs.declared.types.NameId.{NameId}
-use Rattle.mailbox.specs.Mail.{is_named}
+use Rattle.slot_queues.specs.Mail.{is_named}
 use Rattle.node_state.specs.LongAnswers.{HasSameNames}
 use Rattle.node_state.proofs.FewNames.{IsOnce, appended, too_many}
 use Rattle.node_state.proofs.long.different.Goals as goal

@@ -3,7 +3,7 @@ use Rattle.run_types.specs.declared.types.Label.TheVariants as L
 use Rattle.run_types.specs.declared.types.What.TheVariants as W
 use Rattle.code_semantics.specs.Kinds.{code_kind}
 use Rattle.node_heap.specs.Heaps.{HeapOf, object_at}
-use Rattle.mailbox.specs.Mail.{box_of}
+use Rattle.slot_queues.specs.Mail.{box_of}
 use Rattle.mesh_semantics.specs.Act.{can_step}
 use Rattle.mesh_of_code.specs.Coded.{kind_of}
 use Rattle.node_semantics.specs.Node.{arrivals}

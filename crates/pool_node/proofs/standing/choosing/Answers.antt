@@ -1,6 +1,6 @@
 use Rattle.std.proofs.Common.{sym, ap, ◌∙◌, is_some, Option, ℕ}
 use Rattle.node_heap.specs.Heaps.{object_at}
-use Rattle.mailbox.specs.Mail.{box_of}
+use Rattle.slot_queues.specs.Mail.{box_of}
 use Rattle.pool_node.specs.Standings.{chosen_standing}
 use Rattle.node_state.proofs.Laws.{slot_real, can_choose}
 use Rattle.pool_node.proofs.standing.choosing.Goals as goal

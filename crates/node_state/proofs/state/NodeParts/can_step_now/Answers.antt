@@ -1,6 +1,6 @@
 use Rattle.std.proofs.Common.{sym, ap, ◌∙◌, is_some, Option, ℕ}
 use Rattle.code_semantics.specs.Kinds.{code_kind}
-use Rattle.mailbox.specs.Mail.{box_of}
+use Rattle.slot_queues.specs.Mail.{box_of}
 use Rattle.node_heap.specs.Heaps.{object_at}
 use Rattle.node_semantics.specs.Node.{arrivals}
 use Rattle.node_state.specs.Views.{arrivals_of}

@@ -1,5 +1,5 @@
 use Rattle.std.proofs.Common.{sym, arith, length, ◌<◌}
-use Rattle.mailbox.specs.Mail.{box_of}
+use Rattle.slot_queues.specs.Mail.{box_of}
 use Rattle.node_heap.specs.Heaps.{object_at}
 use Rattle.object_interp.specs.Offers.{offers_at}
 use Rattle.node_state.proofs.FirstAlternative.{chosen_here, chosen_later}

@@ -1,5 +1,5 @@
 use Rattle.std.proofs.Common.{◌≡◌, ◌+◌, drop}
-use Rattle.mailbox.specs.Mail.{box_of}
+use Rattle.slot_queues.specs.Mail.{box_of}
 use Rattle.node_heap.specs.Heaps.{object_at}
 use Rattle.object_interp.specs.Offers.{offers_at}
 use Rattle.node_state.specs.Choices.{first_of_these}

@@ -5,8 +5,8 @@ use Rattle.code_semantics.specs.Step.{code_serving}
 use Rattle.code_semantics.specs.Forget.{forget}
 use Rattle.node_heap.specs.Heaps.{object_at}
 use Rattle.object_interp.specs.Offers.{offer_at, offers_at, open_names}
-use Rattle.mailbox.specs.Mail.{box_of}
-use Rattle.mailbox.proofs.Laws.{taken_at, taken_named, taken_somewhere}
+use Rattle.slot_queues.specs.Mail.{box_of}
+use Rattle.slot_queues.proofs.Laws.{taken_at, taken_named, taken_somewhere}
 use Rattle.node_state.specs.declared.state.NodeParts.{NodeParts}
 use Rattle.node_state.specs.Views.{arrivals_of, number_by, slot_at}
 use Rattle.node_state.specs.Changes.{IsChanged, serves_for_call}

@@ -1,6 +1,0 @@
-use Rattle.std.proofs.Common.{◌≡◌}
-use Rattle.mailbox.specs.Lanes.{rank_in, joined}
-use Rattle.mailbox.proofs.lanes.Lanes.rank.Given as goal
-
-abbrev pub invariant-loop-queue : goal.invariant-loop-queue
-invariant-loop-queue l = l.count ≡ rank_in l.to l.end (joined l.queue l.self.pool.lists)

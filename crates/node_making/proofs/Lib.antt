@@ -1,0 +1,2 @@
+pub mod CreateStep
+pub mod Laws

@@ -1,0 +1,14 @@
+pub mod Counts
+pub mod Empty
+pub mod Indexed
+pub mod Joined
+pub mod Kept
+pub mod Laws
+pub mod Order
+pub mod Places
+pub mod Ranks
+pub mod Removed
+pub mod Search
+pub mod Taken
+pub mod Views
+pub mod Waiting
