@@ -7,12 +7,7 @@ use Rattle.std.proofs.lemmas.List.{length-append, get_or_default}
 use Rattle.std.proofs.lemmas.List.Folds.{list_any-append, list_any_more}
 use Rattle.run_types.specs.declared.types.NameId.{NameId}
 use Rattle.slot_queues.specs.Mail.{is_named}
-use Rattle.node_state.specs.LongAnswers.{HasSameNames, HasFewNames}
-
--- no name is in it twice
-abbrev pub IsOnce : List NameId → Type 0
-IsOnce [] = Unit {0}
-IsOnce (x ∷ xs) = (is_named xs x ≡ false) × IsOnce xs
+use Rattle.node_state.specs.LongAnswers.{AreEachOnce, HasFewNames, HasSameNames, IsOnce}
 
 -- the first such name is left out
 abbrev without : NameId → List NameId → List NameId
@@ -114,8 +109,8 @@ module _ (once names : List NameId) (k : ℕ) (d : NameId) (less : k < length na
     named_first : HasSameNames (once ++ get_or names k d ∷ []) (take (k + 1) names)
     named_first m = list_any-append (λ (x : NameId). x.0 == m.0) once (get_or names k d ∷ []) ∙ ap (λ b. is_named once m || b) (or_none ((get_or names k d).0 == m.0)) ∙ ap (λ b. b || ((get_or names k d).0 == m.0)) (same m) ∙ sym (more m)
 
-    pub appended : length once ≤ 64 → (length once ≡ 64 → ⊥) → HasSameNames (once ++ get_or names k d ∷ []) (take (k + 1) names) × IsOnce (once ++ get_or names k d ∷ []) × (length (once ++ get_or names k d ∷ []) ≤ 64)
-    appended most room = let long = length-append once (get_or names k d ∷ []) in (named_first, once_more (get_or names k d) once each new, omega arith)
+    pub appended : length once ≤ 64 → (length once ≡ 64 → ⊥) → AreEachOnce (once ++ get_or names k d ∷ []) (take (k + 1) names)
+    appended most room = let long = length-append once (get_or names k d ∷ []) in record { same = named_first; each = once_more (get_or names k d) once each new; few = omega arith }
 
     -- 65 names are different
     pub too_many : length once ≡ 64 → HasFewNames names → ⊥

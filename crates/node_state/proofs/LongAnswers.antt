@@ -20,7 +20,7 @@ use Rattle.slot_queues.specs.declared.Message.{Message}
 use Rattle.slot_queues.specs.Mail.{is_named}
 use Rattle.node_state.specs.declared.long.LongAnswer.{LongAnswer}
 use Rattle.node_state.specs.Choices.{is_called, place_called}
-use Rattle.node_state.specs.LongAnswers.{answered, names_in, names_at, place_in, HasSameNames, IsLongOf, IsSameAnswer}
+use Rattle.node_state.specs.LongAnswers.{answered, names_in, names_at, place_in, AreEachOnce, HasSameNames, IsLongOf, IsSameAnswer}
 
 -- ---- the same names
 
@@ -80,12 +80,12 @@ module _ (names : List NameId) where
       by (f ∷ fs) g = in_instr f (slice_get (code_of (slice_get u.classes x.class) f.method) f.at) alt g
 
   -- the names of a long answer at the place
-  pub long_at : (u : Code) (long : List LongAnswer) (i : ℕ) (a : LongAnswer) → Each (IsLongOf u) long → slice_get long i ≡ Some a → names_at u a.place ≡ Some names → HasSameNames a.names names × (length a.names ≤ 64)
+  pub long_at : (u : Code) (long : List LongAnswer) (i : ℕ) (a : LongAnswer) → Each (IsLongOf u) long → slice_get long i ≡ Some a → names_at u a.place ≡ Some names → AreEachOnce a.names names
   long_at u [] i a h at e = absurd (cc)
   long_at u (b ∷ long) zero a h at e = let same : b ≡ a = cc in is (subst (λ z. IsLongOf u z) same h.0)
     where
-      is : IsLongOf u a → HasSameNames a.names names × (length a.names ≤ 64)
-      is w = let those : w.0 ≡ names = (let s : Some w.0 ≡ Some names = sym w.1 ∙ e in cc) in (subst (λ ns. HasSameNames a.names ns) those w.2, w.3)
+      is : IsLongOf u a → AreEachOnce a.names names
+      is w = let those : w.0 ≡ names = (let s : Some w.0 ≡ Some names = sym w.1 ∙ e in cc) in subst (AreEachOnce a.names) those w.3
   long_at u (b ∷ long) (suc i) a h at e = long_at u long i a h.1 at e
 
 pub on_ok_weaker : {X E : Type 0} (r : Result X E) (P Q : Type 0) → (P → Q) → OnOk r P → OnOk r Q

@@ -10,7 +10,7 @@ use Rattle.run_types.specs.declared.types.NameId.{NameId}
 use Rattle.code_semantics.specs.declared.unit.Unit.{Unit as Code}
 use Rattle.node_state.specs.declared.long.AnswerPlace.{AnswerPlace}
 use Rattle.node_state.specs.declared.long.LongAnswer.{LongAnswer}
-use Rattle.node_state.specs.LongAnswers.{names_at, place_order, HasSameNames, IsListed, IsInOrder, AreLongOf}
+use Rattle.node_state.specs.LongAnswers.{names_at, place_order, AreEachOnce, IsListed, IsInOrder, AreLongOf}
 use Rattle.node_state.specs.contracts.long.AnswerPlaceOrd.TheImpl.Laws.{total-law}
 use Rattle.node_state.proofs.PlaceOrder.{equal, same}
 use Rattle.node_state.proofs.LongAnswers.{long_at}
@@ -48,7 +48,7 @@ not_listed answers p i order search listed = by (cases_lt listed.0 i)
 
 -- what is found has the names of the answer
 pub found_names : (u : Code) (long : List LongAnswer) (p : AnswerPlace) (names : List NameId) (i : ℕ) (a : LongAnswer) → AreLongOf u long → i < length long → IsBinarySearchResult (λ x. place_order x.place p) long (Ok i) → a ≡ get_or long i a
-    → names_at u p ≡ Some names → HasSameNames a.names names × (length a.names ≤ 64)
+    → names_at u p ≡ Some names → AreEachOnce a.names names
 found_names u long p names i a are less search is named =
     let here : a.place ≡ p = same a.place p (ap (λ (x : LongAnswer). place_order x.place p) is ∙ search a) in
     long_at names u long i a are.each (slice_get-get_or long i a less ∙ ap Some (sym is)) (ap (names_at u) here ∙ named)

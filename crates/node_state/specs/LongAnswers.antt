@@ -1,5 +1,5 @@
 -- The names of long answers, each once.
-use Rattle.std.specs.Prelude.{◌≡◌, ◌<◌, ◌≤◌, ℕ, zero, suc, List, [], ◌∷◌, Option, Some, None, length, slice_get}
+use Rattle.std.specs.Prelude.{◌≡◌, ◌<◌, ◌≤◌, ℕ, zero, suc, List, [], ◌∷◌, Option, Some, None, length, slice_get, false}
 use Rattle.std.specs.declared.cmp.Ordering.{Ordering}
 use Rattle.std.specs.declared.cmp.Ordering.TheVariants.{Less}
 use Rattle.run_types.specs.Tables.{Each}
@@ -51,6 +51,17 @@ place_in x alt = record { class = x.class; method = (top_in x.frames).method; at
 abbrev pub HasSameNames : List NameId → List NameId → Type 0
 HasSameNames xs ys = (m : NameId) → is_named xs m ≡ is_named ys m
 
+-- no name is in the list twice
+abbrev pub IsOnce : List NameId → Type 0
+IsOnce [] = Unit {0}
+IsOnce (x ∷ xs) = (is_named xs x ≡ false) × IsOnce xs
+
+-- the same names, each once, and at most 64
+pub record AreEachOnce (once names : List NameId) : Type 0 where
+  pub same : HasSameNames once names
+  pub each : IsOnce once
+  pub few : length once ≤ 64
+
 -- at most 64 of the names are different
 abbrev pub HasFewNames : List NameId → Type 0
 HasFewNames names = (once : List NameId) × HasSameNames once names × (length once ≤ 64)
@@ -63,9 +74,9 @@ IsLongAt u p = (names : List NameId) × (names_at u p ≡ Some names) × (64 < l
 abbrev pub place_order : AnswerPlace → AnswerPlace → Ordering
 place_order = (place_ord.ghosts).cmp
 
--- at its place the unit has an answer of more than 64 names, and of these, which are at most 64
+-- at its place the unit has an answer of more than 64 names; it has each of them once, and they are at most 64
 abbrev pub IsLongOf : Code → LongAnswer → Type 0
-IsLongOf u a = (names : List NameId) × (names_at u a.place ≡ Some names) × HasSameNames a.names names × (length a.names ≤ 64) × (64 < length names)
+IsLongOf u a = (names : List NameId) × (names_at u a.place ≡ Some names) × (64 < length names) × AreEachOnce a.names names
 
 abbrev pub IsListed : List LongAnswer → AnswerPlace → Type 0
 IsListed answers p = (i : ℕ) × (a : LongAnswer) × (slice_get answers i ≡ Some a) × (a.place ≡ p)

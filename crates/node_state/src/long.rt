@@ -10,7 +10,7 @@ ghost use Rattle.code_semantics.specs.Proper.{IsProper};
 ghost use Rattle.code_semantics.specs.StepInstructions.{FitsUnit, IsAtStep};
 ghost use Rattle.node_heap.specs.Heaps.{object_at};
 ghost use Rattle.object_interp.specs.Offers.{offer_at, offers_at, open_names};
-ghost use Rattle.node_state.specs.LongAnswers.{instr_at, names_at, place_in, AreLongBefore, AreLongOf, HasFewNames, HasSameNames, IsSameAnswer};
+ghost use Rattle.node_state.specs.LongAnswers.{instr_at, names_at, place_in, AreEachOnce, AreLongBefore, AreLongOf, HasFewNames, HasSameNames, IsSameAnswer};
 
 use code_semantics::{AltCode, Instr, Unit};
 use node_heap::Heap;
@@ -140,9 +140,9 @@ fn add_answer(
     }
 }
 
-/// The names of a list, each once, in the order in which they are first named. None if they are more than 64.
+/// The names of a list, each once. None if they are more than 64.
 fn different(alloc: Global, names: &[NameId]) -> Result<Option<List<NameId>>, AllocError>
-    ensures { IfOk result (λ r. MatchOption r (¬ (HasFewNames names.now)) (λ once. HasSameNames once names.now × (length once ≤ 64))) }
+    ensures { IfOk result (λ r. MatchOption r (¬ (HasFewNames names.now)) (λ once. AreEachOnce once names.now)) }
 {
     let mut once = List::make(alloc);
     for name in names {

@@ -11,7 +11,7 @@ returns-in-Ok c =
     let found : IsBinarySearchResult (λ y. place_order y.place p) long c.binary_search_by_key.result = c.binary_search_by_key.ensures.position (λ y. y.place) (answers_always _ _ _ (λ f y r g called. search rules)) in
     let names = found_names a.0 long p c.args.names.now i x a.1 c.in-Ok.ensures.bound (subst (IsBinarySearchResult (λ y. place_order y.place p) long) c.in-Ok.is found) c.index-long-index.is a.2 in
     let all : c.items.result.now ≡ x.names = c.items.ensures ∙ ap (λ y. y.names) (sym c.index-long-index.is) in
-    record { same = subst (λ ns. HasSameNames ns c.args.names.now) (sym all) names.0; few = λ few. subst (λ ns. length ns ≤ 64) (sym all) names.1 }
+    record { same = subst (λ ns. HasSameNames ns c.args.names.now) (sym all) names.same; few = λ few. subst (λ ns. length ns ≤ 64) (sym all) names.few }
 
 pub returns-in-Err-clause-few : goal.returns-in-Err-clause-few
 returns-in-Err-clause-few c few =
