@@ -1,10 +1,4 @@
-pub mod Blocks
-pub mod LinearScan
-pub mod BlockAllocation
 pub mod Laws
-pub mod Links
+pub mod LinearScan
 pub mod Moves
 pub mod Pools
-pub mod Queues
-pub mod SharedRegion
-pub mod RegionWalks

@@ -5,14 +5,8 @@
 
 mod parts;
 mod pool;
-mod queue;
-mod region;
 
 // A crate can name a pool in a contract only if the types of its fields are exported.
 #[doc(hidden)]
 pub use parts::Parts;
 pub use pool::CellPool;
-#[doc(hidden)]
-pub use queue::{Cell, Queue};
-#[doc(hidden)]
-pub use region::{Deed, Place, Region};

@@ -1,6 +1,6 @@
 use Rattle.std.proofs.Common.{◌≡◌, ℕ, suc, ◌<◌, List, [], length, get_or}
 use Rattle.std.specs.Fn.{FnReturnsAt}
-use Rattle.cell_pool.specs.Slots.{place_at}
+use Rattle.linked_cells.specs.Slots.{place_at}
 use Rattle.cell_pool.specs.Lists.{IsLeastOf}
 use Rattle.cell_pool.specs.Pools.{Holds, lists_of}
 use Rattle.cell_pool.proofs.parts.Parts.least.Given as goal

@@ -1,7 +1,7 @@
 use Rattle.std.proofs.Common.{ℕ, suc, ◌<◌, List, [], ◌∷◌, length, get_or, set, refl, arith}
 use Rattle.std.specs.Vec.{with_item}
-use Rattle.cell_pool.specs.Slots.{index_of}
-use Rattle.cell_pool.proofs.Links.{value_in}
+use Rattle.linked_cells.specs.Slots.{index_of}
+use Rattle.linked_cells.proofs.Laws.{value_in}
 use Rattle.cell_pool.proofs.Moves.{loose_in, room_in, put_holds, put_first_list}
 use Rattle.cell_pool.proofs.parts.Parts.put_first_held.Goals as goal
 

@@ -1,6 +1,6 @@
 use Rattle.std.proofs.Common.{ℕ, suc, ◌<◌, List, [], ◌++◌, length, get_or, set, take, drop, refl, sym, ap, ◌∙◌, arith}
-use Rattle.cell_pool.specs.Slots.{Grid, place_at}
-use Rattle.cell_pool.proofs.Links.{cell_of, still_held}
+use Rattle.linked_cells.specs.Slots.{Grid, place_at}
+use Rattle.linked_cells.proofs.Laws.{cell_of, still_held}
 use Rattle.cell_pool.proofs.Moves.{nth_of, queue_is, first_at, split_at, filled_at, out_holds, out_none, out_below, out_vacant, lists_total, vacant_length}
 use Rattle.cell_pool.proofs.parts.Parts.take_vacant.Goals as goal
 
