@@ -11,9 +11,12 @@ Run = collections.namedtuple('Run', 'status clock used memory')
 def program_of(words, name='pool'):
     """The path of the program that the words name, or of the one of this name that its script builds on first use."""
     if len(words) > 1:
-        return os.path.realpath(words[1])
+        path = os.path.realpath(words[1])
+        if not os.path.isfile(path) or not os.access(path, os.X_OK):
+            sys.exit(f'{words[0]}: there is no program {words[1]}')
+        return path
     script = os.path.join(HERE, '..', name)
-    if os.system(script + ' >/dev/null 2>&1') >> 8 != 64:
+    if subprocess.run([script], stdin=subprocess.DEVNULL, stdout=subprocess.DEVNULL, stderr=subprocess.DEVNULL).returncode != 64:
         sys.exit(f'{words[0]}: ./{name} does not run')
     return os.path.join(HERE, '..', '.pool', name)
 

@@ -7,11 +7,16 @@ if ! command -v erlc >/dev/null || ! command -v erl >/dev/null; then
 fi
 beams=$here/out
 
-# Compiles the engine into out/, unless that is newer than the sources.
-compile() {
-    [ -f "$beams/pool_engine.beam" ] && [ -z "$(find "$here" -name '*.[eh]rl' -newer "$beams/pool_engine.beam")" ] && return
-    new=$(mktemp -d "$here/new.XXXXXX") && erlc -o "$new" "$here"/*.erl && mkdir -p "$beams" && mv "$new"/* "$beams" && rmdir "$new"
-}
+# Compiles the engine into out/, unless that is newer than the sources. (A shell of its own does so, whose folder goes with it.)
+compile() (
+    [ -f "$beams/pool_engine.beam" ] && [ -z "$(find "$here" -name '*.[eh]rl' -newer "$beams/pool_engine.beam")" ] && exit
+    new=$(mktemp -d "$here/new.XXXXXX") || exit
+    trap 'rm -rf "$new"' EXIT
+    trap 'exit 129' HUP
+    trap 'exit 130' INT
+    trap 'exit 143' TERM
+    erlc -o "$new" "$here"/*.erl && mkdir -p "$beams" && mv "$new"/* "$beams"
+)
 
 # `plant FAULT FOLDER` makes a copy of the engine in a new folder, with the changes of faults/FAULT.edit. From now on that copy runs. The old
 # text of a change must be in one place of its file.
@@ -34,14 +39,15 @@ plant() {
             close(file)
             print file
         }' "$here/faults/$1.edit") || return
-    # shellcheck disable=SC2086 # (the name of a file has no blank)
-    erlc -o "$2/out" $(printf '%s\n' $changed | sort -u) && beams=$2/out
+    printf '%s\n' "$changed" | sort -u | tr '\n' '\0' | xargs -0 erlc -o "$2/out" && beams=$2/out
 }
 
-# Starts Erlang with these words, without an input or a shell. Its modules write texts for readers to the file 3.
-erlang() { ERL_CRASH_DUMP_SECONDS=0 erl +Bd +sbwt none -noinput -kernel logger_level none -pa "$beams" "$@"; }
+# Starts Erlang in the place of this shell, with these words and without an input or a shell of its own. Its modules write texts for readers to
+# the file 3.
+erlang() { exec env ERL_CRASH_DUMP_SECONDS=0 erl +Bd +sbwt none -noinput -kernel logger_level none -pa "$beams" "$@"; }
 
-# `engine N JOBS` runs the jobs of a file on N hosts. All of them listen on the loopback alone, with a secret of their own.
+# `engine N JOBS` runs the jobs of a file on N hosts, in the place of this shell. All of them listen on the loopback alone, with a secret of
+# their own.
 engine() {
     HOME=$made ERL_EPMD_ADDRESS=127.0.0.1 erlang -name "pool$$@127.0.0.1" -kernel inet_dist_use_interface '{127,0,0,1}' -run pool_engine main "$1" "$2"
 }

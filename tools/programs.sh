@@ -46,12 +46,13 @@ files() {
 }
 
 # Adds to each name the time of its last change and its size; a name of nothing is left out.
-stamped() { (cd "$top" && xargs stat -L -c '%n %.Y %s' 2>/dev/null) || :; }
+stamped() { (cd "$top" && tr '\n' '\0' | xargs -0 stat -L -c '%n %.Y %s' 2>/dev/null) || :; }
 
 # Whether there is no such program, or a file that its build read is another one now, or is gone. (A new file is read only where one of these names it.)
 changed() {
-    [ -x "$kept/$1" ] && [ -s "$kept/$1.built" ] || return 0
-    read -r known _ <"$kept/$1.built"
+    [ -x "$kept/$1" ] && [ -s "$kept/$1.built" ] && [ -s "$kept/$1.names" ] || return 0
+    # (the first name is that of the toolchain's command)
+    IFS= read -r known <"$kept/$1.names"
     if [ -z "$rt" ]; then
         # (without the toolchain the sources alone are looked at)
         changes=$(grep -v '^/' "$kept/$1.names" | stamped | grep -cvxF -f "$kept/$1.built") || :

@@ -6,6 +6,7 @@ passed=0 failed=0
 make_folder() {
     made=$(mktemp -d) || exit 2
     trap 'rm -rf "$made"' EXIT
+    trap 'exit 129' HUP
     trap 'exit 130' INT
     trap 'exit 143' TERM
 }

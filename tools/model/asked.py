@@ -23,26 +23,36 @@ def told(is_right, text):
 
 
 def ended():
-    """Writes the last line of a check, and gives its status."""
+    """Writes the last line of a check, and gives its status: 0 where comparisons were right and none was not."""
     print(f"{counts[True]} passed, {counts[False]} failed")
-    return 1 if counts[False] else 0
+    return 0 if counts[True] and not counts[False] else 1
+
+
+def program(given, name):
+    """The path of a program: of the one that is given, or of `pool` or `explore` of the repository, which is built on first use. Ends the script
+    where it does not run."""
+    path, script = os.path.abspath(given or f"{TOP}/{name}"), os.path.relpath(os.path.realpath(sys.argv[0]), TOP)
+    try:
+        status = subprocess.run([path], stdin=subprocess.DEVNULL, capture_output=bool(given)).returncode
+    except OSError:
+        status = None
+    # (without words the program ends with this status)
+    if status != 64:
+        print(f"{script}: {path} is no such program", file=sys.stderr)
+        sys.exit(2)
+    # (the script at the top has built the program, and only runs it)
+    return f"{TOP}/.pool/{name}" if os.path.realpath(path) == f"{TOP}/{name}" else path
 
 
 def pool_and_tables(script, words, folder):
     """The path of `pool`, and the names of tables in this folder: those among the words of a script, or all. Ends the script where a word is
     wrong."""
     names = sorted(name.removesuffix(".txt") for name in os.listdir(f"{TOP}/{folder}") if name.endswith(".txt"))
-    paths, wrong = [word for word in words if word not in names], ""
-    pool = os.path.abspath(paths[0] if paths else f"{TOP}/pool")
+    paths = [word for word in words if word not in names]
     if len(paths) > 1:
-        wrong = f"usage: {script} [POOL] [TABLE..]"
-    # (without words the program ends with this status, and ./pool was built)
-    elif not os.path.isfile(pool) or subprocess.run([pool], capture_output=bool(paths)).returncode != 64:
-        wrong = f"{script}: {pool} is no such program"
-    if wrong:
-        print(wrong, file=sys.stderr)
+        print(f"usage: {script} [POOL] [TABLE..]", file=sys.stderr)
         sys.exit(2)
-    return pool, [word for word in words if word in names] or names
+    return program(paths[0] if paths else None, "pool"), [word for word in words if word in names] or names
 
 
 def short(text):
