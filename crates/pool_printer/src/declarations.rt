@@ -7,7 +7,8 @@ ghost use Rattle.pool_printer.specs.Canonical.{variable_tokens};
 ghost use Rattle.pool_printer.specs.Known.{are_known};
 ghost use Rattle.pool_printer.specs.SinkState.{Prints, state};
 
-use crate::expressions::{ANY, expression};
+use crate::expressions::expression;
+use crate::levels::ANY;
 use crate::statements::statements;
 use crate::token_writer::{Progress, say, say_all, separate};
 use pool_outside::Sink;

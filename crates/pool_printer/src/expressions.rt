@@ -1,24 +1,17 @@
 //! Output of expressions.
 ghost use Rattle.std.specs.Prelude.{◌≡◌, true};
 ghost use Rattle.pool_syntax.specs.TreeOf.{expression_of, expressions_of};
-ghost use Rattle.pool_printer.specs.Canonical.{argument_tokens, bare_tokens, call_tokens, expression_tokens, left_need, level, operator_level, operator_token, right_need, separated_by, truth_token};
+ghost use Rattle.pool_printer.specs.Canonical.{argument_tokens, bare_tokens, call_tokens, expression_tokens, operator_token, separated_by, truth_token};
 ghost use Rattle.pool_printer.specs.Known.{are_known};
 ghost use Rattle.pool_printer.specs.SinkState.{Prints, state};
 ghost use Rattle.pool_syntax.specs.declared.token.Tok.TheVariants.{Sign as SignToken};
 
+use crate::levels::{ANY, PREFIX, SEND, left_need, level, right_need};
 use crate::token_writer::{Progress, say, say_all, separate};
 use pool_outside::Sink;
 use pool_syntax::{Expr, Sign, Tok};
 use run_types::{NameId, Names, Op};
 use text_scan::Keyword;
-
-/// The level that a place requires if every expression may be there without parentheses.
-pub const ANY: u8 = 1;
-
-const PREFIX: u8 = 6;
-
-/// The level of a send, and the level that its destination requires.
-pub const SEND: u8 = 7;
 
 fn truth_token(value: bool) -> Tok
     ensures { result ≡ truth_token value }
@@ -49,49 +42,6 @@ fn operator_token(op: Op) -> Tok
         Op::And => Tok::Word(Keyword::And),
         Op::Or => Tok::Word(Keyword::Or),
         Op::Not => Tok::Word(Keyword::Not),
-    }
-}
-
-fn operator_level(op: Op) -> u8
-    ensures { result ≡ operator_level op }
-{
-    match op {
-        Op::Or => 1,
-        Op::And => 2,
-        Op::Same | Op::Differs | Op::Less | Op::LessEq | Op::More | Op::MoreEq => 3,
-        Op::Add | Op::Sub => 4,
-        Op::Mul | Op::Div | Op::Rem => 5,
-        Op::Neg | Op::Not => PREFIX,
-    }
-}
-
-/// Reports the level that a left operand requires. Repeated operators group to the left, but comparisons do not.
-fn left_need(op: Op) -> u8
-    ensures { result ≡ left_need op }
-{
-    match operator_level(op) {
-        3 => 4,
-        level => level,
-    }
-}
-
-fn right_need(op: Op) -> u8
-    ensures { result ≡ right_need op }
-{
-    match operator_level(op) {
-        level if level < u8::MAX => level + 1,
-        _ => u8::MAX,
-    }
-}
-
-fn level(expr: &Expr) -> u8
-    ensures { result ≡ level (expression_of expr.now) }
-{
-    match expr {
-        Expr::Binary { op, .. } => operator_level(*op),
-        Expr::Unary { .. } => PREFIX,
-        Expr::Send { .. } => SEND,
-        _ => 8,
     }
 }
 

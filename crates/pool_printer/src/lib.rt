@@ -5,9 +5,11 @@
 
 mod declarations;
 mod expressions;
+mod levels;
 mod program;
 mod statements;
 pub mod theorems;
 mod token_writer;
 
+pub use levels::{left_need, level, operator_level, right_need};
 pub use program::print;

@@ -8,7 +8,8 @@ ghost use Rattle.pool_printer.specs.Known.{are_known};
 ghost use Rattle.pool_printer.specs.Parts.{alternative_tokens};
 ghost use Rattle.pool_printer.specs.SinkState.{Prints, state};
 
-use crate::expressions::{ANY, SEND, call, expression};
+use crate::expressions::{call, expression};
+use crate::levels::{ANY, SEND};
 use crate::token_writer::{Progress, say, separate};
 use pool_outside::Sink;
 use pool_syntax::{Alt, Named, Sign, Stmt, Tok};

@@ -3,14 +3,12 @@ ghost use Rattle.std.specs.Prelude.{◌≡◌, ◌++◌, [], ◌∷◌, OnOk};
 ghost use Rattle.pool_printer.specs.Canonical.{left_need, operator_level, right_need};
 ghost use Rattle.stepper_text.specs.Around.{after, afters, before, befores, closed, done_arguments, nested_level, opened, operand_text, place_level};
 
+use pool_printer::{left_need, operator_level, right_need};
 use record_writer::{push_name, push_value, push_word};
 use run_types::Names;
 use std::alloc::AllocError;
 use stepper_terms::contexts::{ExpressionContext, Operand};
-use term_text::{
-    left_need, operator_level, push_call, push_enclosed, push_more_arguments, push_operator,
-    right_need,
-};
+use term_text::{push_call, push_enclosed, push_more_arguments, push_operator};
 
 /// Appends an evaluated value.
 pub fn push_operand(text: &mut Vec<u8>, operand: &Operand) -> Result<(), AllocError>

@@ -1,9 +1,9 @@
 //! The text of a program's expressions.
 ghost use Rattle.std.specs.Prelude.{◌≡◌, ◌++◌, OnOk};
 ghost use Rattle.pool_syntax.specs.TreeOf.{expression_of, expressions_of};
-ghost use Rattle.pool_printer.specs.Canonical.{left_need, level, operator_level, right_need};
 ghost use Rattle.term_text.specs.Words.{operator_text, arguments_text, bare_text, called, more_arguments, text_in, word};
 
+use pool_printer::{left_need, level, right_need};
 use pool_syntax::Expr;
 use record_writer::{push_name, push_value, push_word};
 use run_types::{NameId, Names, Op, Value};
@@ -28,50 +28,6 @@ fn operator_text(op: Op) -> &'static [u8]
         Op::And => b"and",
         Op::Or => b"or",
         Op::Not => b"not",
-    }
-}
-
-pub fn operator_level(op: Op) -> u8
-    ensures { result ≡ operator_level op }
-{
-    match op {
-        Op::Or => 1,
-        Op::And => 2,
-        Op::Same | Op::Differs | Op::Less | Op::LessEq | Op::More | Op::MoreEq => 3,
-        Op::Add | Op::Sub => 4,
-        Op::Mul | Op::Div | Op::Rem => 5,
-        Op::Neg | Op::Not => 6,
-    }
-}
-
-/// What a left operand needs.
-pub fn left_need(op: Op) -> u8
-    ensures { result ≡ left_need op }
-{
-    match operator_level(op) {
-        3 => 4,
-        level => level,
-    }
-}
-
-/// What a right operand needs.
-pub fn right_need(op: Op) -> u8
-    ensures { result ≡ right_need op }
-{
-    match operator_level(op) {
-        level if level < u8::MAX => level + 1,
-        _ => u8::MAX,
-    }
-}
-
-fn level(expr: &Expr) -> u8
-    ensures { result ≡ level (expression_of expr.now) }
-{
-    match expr {
-        Expr::Binary { op, .. } => operator_level(*op),
-        Expr::Unary { .. } => 6,
-        Expr::Send { .. } => 7,
-        _ => 8,
     }
 }
 

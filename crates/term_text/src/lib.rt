@@ -1,6 +1,7 @@
-//! The text of terms with the redex marked, and of objects and configurations; it writes expressions and statements of a program.
+//! The text of terms with the redex marked, and of objects and configurations; it writes expressions and statements of
+//! a program.
 //!
-//! Does not know: the stepper and files.
+//! Does not know: the stepper and files. An error of a function means out of memory.
 #![tactic(auto)]
 
 /// Makes a call that appends to a text, and returns its error if memory runs out.
@@ -17,8 +18,7 @@ mod parts;
 mod statements;
 
 pub use expressions::{
-    left_need, operator_level, push_arguments, push_call, push_enclosed, push_expression,
-    push_more_arguments, push_operator, right_need,
+    push_arguments, push_call, push_enclosed, push_expression, push_more_arguments, push_operator,
 };
 pub use parts::{push_bindings, push_mark, push_names, push_unmark};
 pub use statements::{
