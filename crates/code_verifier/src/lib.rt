@@ -18,12 +18,6 @@ mod texts;
 mod verified;
 mod verifier;
 
-pub use circles::has_no_circle;
-pub use classes::{Class, Signature, kinds_at, method_place, places_of};
 pub use fault::VerifyFault;
-pub use index::Classes;
-pub use judgement::judge;
-pub use scope::Scope;
-pub use spread::has_table;
 pub use verified::Verified;
 pub use verifier::verify;

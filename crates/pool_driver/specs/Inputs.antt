@@ -1,5 +1,5 @@
 -- The inputs of a request: their order and names, when the text of an input is accepted, and which fault it has.
-use Rattle.std.specs.Prelude.{◌≡◌, List, [], ◌∷◌, Some, None, Ok, ◌⊎◌}
+use Rattle.std.specs.Prelude.{◌≡◌, List, [], ◌∷◌, Some, None, Ok}
 use Rattle.text_scan.specs.Text.{Text}
 use Rattle.pool_syntax.specs.Terms.{ProgramTree}
 use Rattle.pool_syntax.specs.Typing.{faults}
@@ -21,7 +21,7 @@ use Rattle.run_record.specs.Records.{record_of}
 use Rattle.command_line.specs.Commands.{Request, of_run, of_program, of_ring, of_convert, of_check, of_load}
 use Rattle.pool_outside.specs.Reading.{Told}
 use Rattle.command_shell.specs.Programs.{AreServed}
-use Rattle.command_inputs.specs.Programs.{IsParsed, IsTextOf, IsTypedText, IsFaultOfText, IsFaultOfClasses}
+use Rattle.command_inputs.specs.Programs.{IsParsed, HasTypedFault, IsTypedProgram}
 
 -- the inputs of a request with the names of their files, in the order of reading
 abbrev pub inputs : Request → List (Input × Text)
@@ -59,7 +59,7 @@ pub record IsPlacementOf (source s : Text) (l : Placement) : Type 0 where
 -- A program has no class fault, an object code file is verified, and a record of either form has no fault.
 -- A placement is for the classes of the code, and a schedule is for the mesh of the placement.
 abbrev pub IsAccepted : List Text → Input → Text → Type 0
-IsAccepted [] I.Program s = (p : ProgramTree) × IsTypedText s p
+IsAccepted [] I.Program s = IsTypedProgram s
 IsAccepted (source ∷ []) I.Placement s = (l : Placement) × IsPlacementOf source s l
 IsAccepted (source ∷ place ∷ []) I.Schedule s = (l : Placement) × (plan : Plan) × IsPlacementOf source place l × (schedule_of l.width l.height l.cuts s ≡ Ok plan)
 IsAccepted [] I.Unit s = (f : UnitFile) × IsVerifiedFile s f
@@ -70,9 +70,9 @@ IsAccepted _ _ s = ⊥
 -- The text has this fault as this input, given the texts of the inputs before it.
 -- Of a program it is the first fault of tokens, grammar or classes.
 -- Of an object code file it is the first of bytes, names, headings or codes.
--- Of a placement, a schedule or a record it is the fault of the first faulty line.
+-- Of a placement, a schedule or a record it is the fault of the first faulty line, or one of the whole text.
 abbrev pub HasFault : List Text → Input → Text → Fault → Type 0
-HasFault [] I.Program s f = IsFaultOfText s f ⊎ ((p : ProgramTree) × IsTextOf s p × IsFaultOfClasses p f)
+HasFault [] I.Program s f = HasTypedFault s f
 HasFault [] I.Unit s (F.Unit f) = IsUnitFault s f
 HasFault (source ∷ []) I.Placement s (F.Placement f) = (u : Code) × Gives source u × (P.fault_in (placement_of u s) ≡ Some f)
 HasFault (source ∷ place ∷ []) I.Schedule s (F.Schedule f) = (l : Placement) × IsPlacementOf source place l × (S.fault_in (schedule_of l.width l.height l.cuts s) ≡ Some f)

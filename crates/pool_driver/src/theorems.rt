@@ -50,9 +50,9 @@ pub fn what_is_built_is_loaded_as_recorded()
     a_text_has_one_program();
 }
 
-/// `load` of the bytes that `build` writes stops at the same input, for the same fault, as `record` of the program does.
-/// The program and the bytes must be within their limits, so that neither is `TooLong`. Then the input is the placement
-/// or the schedule, and there is at most one such input and fault.
+/// `load` of the bytes that `build` writes stops at the same input, for the same fault, as `record` of the program
+/// does. The program and the bytes must be within their limits, so that neither is `TooLong`. Then the input is the
+/// placement or the schedule, and there is at most one such input and fault.
 pub fn what_is_built_is_refused_as_recorded()
     ensures refused { (source bytes place plan : Text) (input : AnyInput) (f : AnyFault) → IsTextFor FileAsked source bytes
         → length source ≤ limit_of ProgramRead → length bytes ≤ limit_of UnitRead
