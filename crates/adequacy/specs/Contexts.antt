@@ -1,4 +1,5 @@
--- Evaluation contexts in the sense of Felleisen and Hieb: terms with a hole where evaluation continues, given from the hole outwards; and the redexes.
+-- Evaluation contexts in the sense of Felleisen and Hieb: terms with a hole where evaluation continues, given from the
+-- hole outwards; and the redexes.
 use Rattle.std.specs.Prelude.{◌≡◌, ℕ, List, [], ◌∷◌, Option, Some, None, option_map}
 use Rattle.run_types.specs.declared.types.Value.{Value}
 use Rattle.run_types.specs.declared.types.Op.{Op}

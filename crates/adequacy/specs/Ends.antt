@@ -31,7 +31,8 @@ pub record EndsInACall (p : ProgramTree) (r : Record Object) : Type 0 where
   pub name : ℕ
   pub waits : WaitsAt p (plain r.last) name
 
--- the record ends quiet, and something is left over: such an object, an object at `answer` or `select`, or a message that was not taken
+-- the record ends quiet, and something is left over: such an object, an object at `answer` or `select`, or a message
+-- that was not taken
 pub record EndsUnfinished (p : ProgramTree) (r : Record Object) : Type 0 where
   pub quiet : ends_quiet r.lines ≡ true
   pub left : HasLeftOver p (plain r.last)

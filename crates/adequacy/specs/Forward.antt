@@ -1,14 +1,17 @@
--- The nesting depth of a token as a fold from the first token. It counts open brackets, and operators whose expression is not complete.
+-- The nesting depth of a token as a fold from the first token. It counts open brackets, and operators whose expression
+-- is not complete.
 use Rattle.std.specs.Prelude.{ℕ, suc, ◌+◌, List, [], ◌∷◌}
 use Rattle.pool_syntax.specs.declared.token.Tok.{Tok}
 use Rattle.pool_grammar.specs.Nesting.{Role, opening, beginning, closing, operating, parting, plain, role}
 
--- An open bracket, with the number of operators that were under way around it when it was opened. It counts together with them, or it hides them and does not count.
+-- An open bracket, with the number of operators that were under way around it when it was opened. It counts together
+-- with them, or it hides them and does not count.
 pub data Bracket : Type 0 where
   counts : (around : ℕ) → Bracket
   hides : (around : ℕ) → Bracket
 
--- The open parts at a place: the number of operators under way in the innermost bracket, and the brackets, the innermost first.
+-- The open parts at a place: the number of operators under way in the innermost bracket, and the brackets, the
+-- innermost first.
 pub record OpenParts : Type 0 where
   pub operators : ℕ
   pub brackets : List Bracket
@@ -16,7 +19,8 @@ pub record OpenParts : Type 0 where
 abbrev pub nothing_open : OpenParts
 nothing_open = record { operators = 0; brackets = [] }
 
--- the innermost bracket is closed, and the operators around it are under way again; if no bracket is open, nothing is open
+-- the innermost bracket is closed, and the operators around it are under way again; if no bracket is open, nothing is
+-- open
 abbrev pub without_innermost : List Bracket → OpenParts
 without_innermost [] = nothing_open
 without_innermost (counts n ∷ bs) = record { operators = n; brackets = bs }
@@ -42,7 +46,8 @@ outside [] = 0
 outside (counts n ∷ bs) = 1 + (n + outside bs)
 outside (hides n ∷ bs) = outside bs
 
--- The depth of a token of this role at a place with these open parts. A bracket counts at its own token and at the one that closes it, without the operators inside; an operator counts at its own token.
+-- The depth of a token of this role at a place with these open parts. A bracket counts at its own token and at the one
+-- that closes it, without the operators inside; an operator counts at its own token.
 abbrev pub depth_at : OpenParts → Role → ℕ
 depth_at s opening = 1 + (s.operators + outside s.brackets)
 depth_at s operating = 1 + (s.operators + outside s.brackets)

@@ -6,7 +6,8 @@ use Rattle.pool_relation.specs.Configuration.{Configuration}
 use Rattle.pool_relation.specs.Transition.{transition}
 use Rattle.mesh_of_terms.specs.RunOf.{IsRight}
 
--- Each label is possible after the labels before it. Each configuration of the run is right, also the first and the last, and the last is z.
+-- Each label is possible after the labels before it. Each configuration of the run is right, also the first and the
+-- last, and the last is z.
 abbrev pub IsRightWay : ProgramTree → Configuration → List Label → (z : Configuration) → Type 0
 IsRightWay p c [] z = IsRight p c × (c ≡ z)
 IsRightWay p c (l ∷ ls) z = (d : Configuration) × IsRight p c × (transition p c l ≡ Some d) × IsRightWay p d ls z

@@ -1,4 +1,5 @@
--- Cells that represent stacks of sorts: each has the sort of its last operand, and the smaller number of the stack below it.
+-- Cells that represent stacks of sorts: each has the sort of its last operand, and the smaller number of the stack
+-- below it.
 use Rattle.std.specs.Prelude.{◌≡◌, ℕ, zero, suc, ◌≤◌, List, [], ◌∷◌, Option, Some, None, slice_get}
 use Rattle.run_types.specs.Sorts as T
 use Rattle.code_typing.specs.Sorts.{Stack}

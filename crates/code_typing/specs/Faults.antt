@@ -1,4 +1,5 @@
--- The fault of a file that is not verified: its first heading that breaks a rule, or otherwise its first code that is not well sorted.
+-- The fault of a file that is not verified: its first heading that breaks a rule, or otherwise its first code that is
+-- not well sorted.
 use Rattle.std.specs.Prelude.{◌≡◌, ◌⊎◌, ℕ, ◌<◌, length, Some, None, slice_get}
 use Rattle.code_semantics.specs.declared.unit.MethodCode.{MethodCode}
 use Rattle.code_semantics.specs.declared.file.MethodKinds.{MethodKinds}
@@ -30,7 +31,8 @@ pub record IsBadMethod (f : UnitFile) (k : Declared) (i : ℕ) : Type 0 where
   pub has_kinds : slice_get k.kinds.methods i ≡ Some kinds
   pub bad : ¬ (IsWellSorted (scope_by f k (Some kinds)) method.frame_words method.code)
 
--- no heading breaks a rule, and this is the first code that is not well sorted; the body comes after the methods of its class
+-- no heading breaks a rule, and this is the first code that is not well sorted; the body comes after the methods of its
+-- class
 pub record IsBadCode (f : UnitFile) (j i : ℕ) : Type 0 where
   pub headings : HeadingsBelow f (length f.unit.classes)
   pub before : (n : ℕ) (k : Declared) → n < j → declared_at f n ≡ Some k → HasWellSorted f k

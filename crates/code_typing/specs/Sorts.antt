@@ -1,4 +1,5 @@
--- The sorts of operands, and the effect of each instruction on a stack of sorts, under the declared kinds of a unit. A stack has the last operand first.
+-- The sorts of operands, and the effect of each instruction on a stack of sorts, under the declared kinds of a unit. A
+-- stack has the last operand first.
 use Rattle.std.specs.Prelude.{ℕ, ◌==◌, List, [], ◌∷◌, length, replicate, take, Option, Some, None, is_some, Bool, true, false, ◌&&◌, ◌||◌, if◌then◌else◌, slice_get}
 use Rattle.run_types.specs.declared.types.NameId.{NameId}
 use Rattle.run_types.specs.declared.types.Op.{Op}
@@ -61,7 +62,8 @@ signature_of m s = record { params = take m.params s.temps; outcome = s.result }
 abbrev pub signature_named : Declared → NameId → Option Signature
 signature_named k m = method_named (Some k.code) m >>= λ r. slice_get k.kinds.methods r.place >>= λ s. Some (signature_of r.code s)
 
--- the scope of a code: its file, its class, the kinds of its temps, and the sort that its value must fit; a body has no value
+-- the scope of a code: its file, its class, the kinds of its temps, and the sort that its value must fit; a body has no
+-- value
 pub record CodeScope : Type 0 where
   pub file : UnitFile
   pub class : Declared

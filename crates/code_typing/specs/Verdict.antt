@@ -1,4 +1,5 @@
--- The verdict on a file, as a computation: the first heading that breaks a rule, or the first code that is not well sorted.
+-- The verdict on a file, as a computation: the first heading that breaks a rule, or the first code that is not well
+-- sorted.
 use Rattle.std.specs.Prelude.{ℕ, zero, suc, ◌+◌, ◌^◌, ◌==◌, List, [], ◌∷◌, ◌++◌, length, map, Option, Some, None, is_some, Bool, true, false, not, ◌&&◌, nat_le, nat_lt, max, slice_get, slice_set}
 use Rattle.std.specs.Prelude.{replicate, drop, is_none}
 use Rattle.std.specs.List.{list_all, list_any}
@@ -63,7 +64,8 @@ visited None s known ws new = None
 visited (Some (Some r)) s known ws new = if_equal (stacks_equal r s) known
 visited (Some None) s known ws new = if_taken ws new
 
--- the table after these visits and all that follow from them, at most n in all; none if a place gets two stacks, or an instruction cannot take its stack
+-- the table after these visits and all that follow from them, at most n in all; none if a place gets two stacks, or an
+-- instruction cannot take its stack
 abbrev pub spread : ℕ → CodeScope → List Instr → Table → List Visit → Option Table
 spread zero g c t [] = Some t
 spread zero g c t (v ∷ vs) = None
@@ -145,7 +147,8 @@ abbrev pub has_no_circle : List Instr → List Instr → ℕ → Bool
 has_no_circle c [] at = true
 has_no_circle c (i ∷ rest) at = silence_ends (suc (length c)) c (Some at) && has_no_circle c rest (suc at)
 
--- the words of a frame are the number of temps plus the greatest depth of the operand stack, and no place from 2^32 on is reached
+-- the words of a frame are the number of temps plus the greatest depth of the operand stack, and no place from 2^32 on
+-- is reached
 abbrev pub has_table : CodeScope → ℕ → Option Table → Bool
 has_table g words None = false
 has_table g words (Some t) = words == length g.temps + most t && list_all is_none (drop (2 ^ 32) t)

@@ -1,4 +1,5 @@
--- Verified files: their headings meet the rules, and each place that a code reaches has one stack of sorts, which its instruction can take.
+-- Verified files: their headings meet the rules, and each place that a code reaches has one stack of sorts, which its
+-- instruction can take.
 use Rattle.std.specs.Prelude.{◌≡◌, ◌≢◌, ℕ, zero, suc, ◌+◌, ◌≤◌, ◌<◌, ◌^◌, List, [], ◌∷◌, length, Option, Some, None, is_some, IsTrue, slice_get}
 use Rattle.run_types.specs.declared.types.Kind.{Kind}
 use Rattle.run_types.specs.declared.types.Kind.TheVariants as K
@@ -16,7 +17,8 @@ use Rattle.code_semantics.specs.ReachedPlaces.{Exists, IsAmong, Chain, nexts}
 use Rattle.code_semantics.specs.Step.{method_named, class_from}
 use Rattle.code_typing.specs.Sorts.{CodeScope, Declared, Stack, declared_at, scope_by, left_by}
 
--- n instructions lead from place 0 to the place `at` with this stack; none of them takes a stack of more than 64 operands
+-- n instructions lead from place 0 to the place `at` with this stack; none of them takes a stack of more than 64
+-- operands
 abbrev pub ReachedBy : CodeScope → List Instr → ℕ → ℕ → Stack → Type 0
 ReachedBy g c zero at s = (at ≡ 0) × (s ≡ [])
 ReachedBy g c (suc n) at s =

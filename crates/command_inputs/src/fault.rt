@@ -44,7 +44,7 @@ pub enum UnitFault {
 #[derive(Clone, Copy)]
 pub enum Fault {
     /// It has more bytes than its limit: 67,108,864 for a record, 16,777,216 for an object code file, and 1,048,576 for
-    /// any other input.
+    /// any other input. A stream that `explore follow` reads is too long from 2^64 - 1 bytes on.
     TooLong,
     /// The first fault of a program's tokens.
     Lex(LexFault),
@@ -67,7 +67,7 @@ pub enum Fault {
 pub enum InputError {
     /// The input was refused.
     Refused { input: Input, fault: Fault },
-    /// A read of the input failed.
+    /// The open or a read of the input failed.
     Unread { input: Input },
     /// Out of memory.
     Memory,
@@ -235,7 +235,7 @@ pub fn line_of_refusal(alloc: Global, input: Input, fault: Fault) -> Result<Vec<
     Ok(line)
 }
 
-/// The line that reports that a read of an input failed. Returns `Err` if memory runs out.
+/// The line that reports that the open or a read of an input failed. Returns `Err` if memory runs out.
 pub fn line_of_unread(alloc: Global, input: Input) -> Result<Vec<u8>, AllocError>
     ensures { IfOk result (λ line. line.items ≡ unread_line input) }
 {

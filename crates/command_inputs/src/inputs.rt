@@ -21,7 +21,7 @@ fn limit_of(input: Input) -> usize
 }
 
 /// Reads an input whole, and opens its file once. Requires that the open is allowed. Returns `Refused` with `TooLong`
-/// if the input has more bytes than its limit, `Unread` if a read failed, and `Memory` if memory runs out.
+/// if the input has more bytes than its limit, `Unread` if the open or a read failed, and `Memory` if memory runs out.
 pub fn read_input<F: Files>(
     alloc: Global,
     files: &mut F,

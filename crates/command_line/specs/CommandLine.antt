@@ -24,7 +24,7 @@ with_each app rows = fold (λ a row. with_subcommand a (words_app row.0 row.1).t
 abbrev pub settings : Shape → Shape
 settings s = record s { no_binary_name = true; disable_help_flag = true; disable_help_subcommand = true; subcommand_required = true }
 
--- the names of the arguments of a command that runs a program or a unit file, which comes first
+-- the names of the arguments of a command that runs a program or an object code file, which comes first
 abbrev pub three_inputs : List Text
 three_inputs = codes "program" ∷ codes "placement" ∷ codes "schedule" ∷ []
 

@@ -16,8 +16,8 @@ pub record FileNames : Type 0 where
   pub schedule : Text
 
 -- A command: a run of three inputs with an output; an output of the program of this name; the ring of k cells; the
--- record of this name in the second form; the check of a record against a program; or the run of a unit file, a
--- placement and a schedule.
+-- record of this name in the second form; the check of a record against a program; or the run of an object code file,
+-- a placement and a schedule.
 pub data Request : Type 0 where
   of_run : (show : Show) (names : FileNames) → Request
   of_program : (ask : Ask) (name : Text) → Request

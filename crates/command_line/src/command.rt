@@ -7,7 +7,7 @@ pub enum Show {
     Record,
     /// The items that its objects write, and the end line.
     Writes,
-    /// The status of its objects at its end, and the end line.
+    /// The status of its objects at its end, the cycles of calls among them, and the end line.
     Report,
 }
 
@@ -33,6 +33,7 @@ pub struct Files<'a> {
 /// A command and its arguments.
 #[derive(Clone, Copy)]
 pub enum Command<'a> {
+    /// Runs the program with the placement and the schedule.
     Run {
         show: Show,
         files: Files<'a>,
@@ -42,11 +43,11 @@ pub enum Command<'a> {
         ask: Ask,
         name: &'a str,
     },
-    /// Writes the program of a ring with this number of cells.
+    /// Runs the ring with this number of cells, from 2 to 1000, and writes its counts.
     Ring {
         cells: u32,
     },
-    /// Converts the record of this name to the second form.
+    /// Converts the record of this name, of either form, to the second form.
     Convert {
         name: &'a str,
     },
@@ -55,7 +56,7 @@ pub enum Command<'a> {
         program: &'a str,
         record: &'a str,
     },
-    /// Runs the unit file with the placement and the schedule.
+    /// Runs the object code file `unit` with the placement and the schedule.
     Load {
         unit: &'a str,
         placement: &'a str,

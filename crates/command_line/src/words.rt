@@ -180,7 +180,7 @@ fn ring_size(word: &str) -> Option<u32>
     }
 }
 
-/// The command that writes a ring. None if the number of cells is not from 2 to 1000.
+/// The command that runs a ring. None if the number of cells is not from 2 to 1000.
 fn ring<'a>(matches: &ArgMatches<'a>) -> Option<Command<'a>>
     ensures request { option_map request result ≡ ring_request (rows_of (found_of matches.now)) }
     ensures sized { IfSome result IsSized }
@@ -218,7 +218,7 @@ fn check<'a>(matches: &ArgMatches<'a>) -> Option<Command<'a>>
     }
 }
 
-/// The command that runs a unit file, a placement and a schedule.
+/// The command that runs an object code file, a placement and a schedule.
 fn load<'a>(matches: &ArgMatches<'a>) -> Option<Command<'a>>
     ensures request { option_map request result ≡ load_request (rows_of (found_of matches.now)) }
     ensures sized { IfSome result IsSized }

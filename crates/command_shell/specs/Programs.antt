@@ -7,8 +7,8 @@ use Rattle.command_inputs.specs.declared.fault.Fault.{Fault}
 use Rattle.command_inputs.specs.Inputs.{limit_of, IsReadAs}
 use Rattle.command_shell.specs.declared.status.Status.{Status}
 
--- A program: its requests, the inputs of each with the names of their files, in the order of reading, and its usage line.
--- A text is accepted as an input given the texts of the inputs before it, or it has a fault.
+-- A program: its requests, the inputs of each with the names of their files, in the order of reading, and its usage
+-- line. A text is accepted as an input given the texts of the inputs before it, or it has a fault.
 -- A request may be refused before a file is opened, for a text that the program made itself.
 -- The output of a request, given the texts of its inputs, is a text and a status.
 pub record Program : Type 1 where

@@ -18,7 +18,8 @@ pub fn say<K: Sink>(sink: &mut K, piece: &[u8], status: Status) -> Status
     }
 }
 
-/// Writes the line of an input error to `err`. Writes nothing if the error is out of memory.
+/// Writes the line of an input error to `err`, and returns its status: `Refused` or `ReadFault`. Returns `WriteFault`
+/// if the write fails. Returns `Memory`, and writes nothing, if the error is out of memory or memory runs out.
 pub fn say_stop<E: Sink>(alloc: Global, err: &mut E, stop: InputError) -> Status
     ensures { ReportsInputError (writing E.written E.faults err.old err.new) stop result }
 {

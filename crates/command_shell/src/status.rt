@@ -2,7 +2,7 @@
 ghost use Rattle.std.specs.Prelude.{◌≡◌};
 ghost use Rattle.command_shell.specs.Statuses.{code_of};
 
-/// The status with which a call of `pool` or `explore` ends. A search uses `Done`, `DoneFaulted` and `ScheduleOver` too.
+/// The status with which a call of `pool` or `explore` ends.
 #[derive(Clone, Copy, Debug, PartialEq, Eq)]
 pub enum Status {
     /// The run ended quiet, the text was written, the record is a run, no run leads to what a search looks for, all
@@ -15,13 +15,14 @@ pub enum Status {
     Refused,
     /// The schedule ended before the run was quiet, or a search met its bound.
     ScheduleOver,
-    /// A node was full.
+    /// A node met its limit of objects, frames or cells.
     Full,
-    /// A read failed.
+    /// An input could not be opened, or a read failed.
     ReadFault,
     /// A write failed.
     WriteFault,
-    /// Out of memory. No command but `follow` has written to `out` before.
+    /// Out of memory. `explore` and `pool check` report it too if an object would have more than 1,000,000 methods
+    /// under way. No command but `follow` has written to `out` before.
     Memory,
     /// The arguments are not a command.
     Usage,

@@ -163,7 +163,9 @@ fn operand(
     }
 }
 
-/// Parses operands with the operators of this level between them. They group to the left.
+/// Parses operands with the operators of this level between them, from token `at` on. They group to the left. Returns
+/// the tree and the number of the token after it. Reports `Unexpected` at the first token that is not expected, or
+/// `Memory`.
 #[cycle(expressions)]
 pub fn grouped(
     alloc: Global,
@@ -219,7 +221,8 @@ fn factor(alloc: Global, source: Source, at: usize) -> Result<(Expr, usize), Syn
     }
 }
 
-/// Parses a primary, and sends to it.
+/// Parses a primary, and sends to it, from token `at` on. Returns the tree and the number of the token after it.
+/// Reports `Unexpected` at the first token that is not expected, or `Memory`.
 #[cycle(expressions)]
 pub fn postfix(
     alloc: Global,
@@ -362,7 +365,8 @@ fn created(source: Source, at: usize, word: Keyword) -> Result<(PostfixTree, usi
     ))
 }
 
-/// Parses arguments in parentheses.
+/// Parses arguments in parentheses, from token `at` on. Returns them and the number of the token after them. Reports
+/// `Unexpected` at the first token that is not expected, or `Memory`.
 #[cycle(expressions)]
 pub fn arguments(
     alloc: Global,

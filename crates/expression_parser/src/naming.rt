@@ -25,7 +25,8 @@ fn token_kind(token: Tok) -> Option<Kind>
     }
 }
 
-/// Parses a declared type, and reports it with the number of its token.
+/// Parses the declared type at token `at`. Returns it with the number of its token, and the number of the token after
+/// it. Reports `Unexpected` if another token is there.
 pub fn kind(source: Source, at: usize) -> Result<((Kind, u32), usize), SyntaxFault>
     requires within { at ≤ length source.tokens.now }
     ensures parses { Parses source.entry.tokens.now kind_phrase at (λ k. k) result }
@@ -37,7 +38,8 @@ pub fn kind(source: Source, at: usize) -> Result<((Kind, u32), usize), SyntaxFau
     }
 }
 
-/// Parses one or more names, with commas between them.
+/// Parses one or more names, with commas between them, from token `at` on. Returns them and the number of the token
+/// after them. Reports `Unexpected` at the first token that is not expected, or `Memory`.
 pub fn names(alloc: Global, source: Source, at: usize) -> Result<(List<Named>, usize), SyntaxFault>
     requires within { at ≤ length source.tokens.now }
     ensures parses { Parses source.entry.tokens.now names_phrase at (λ ns. ns) result }
@@ -55,7 +57,8 @@ pub fn names(alloc: Global, source: Source, at: usize) -> Result<(List<Named>, u
     Ok((list, next))
 }
 
-/// Parses an answer list: names in parentheses.
+/// Parses an answer list, names in parentheses, from token `at` on. Returns them and the number of the token after the
+/// list. Reports `Unexpected` at the first token that is not expected, or `Memory`.
 pub fn answer_list(
     alloc: Global,
     source: Source,

@@ -4,8 +4,8 @@ ghost use Rattle.std.specs.Prelude.{◌≡◌, ◌<◌, ◌≤◌, [], ◌∷◌
 use std::alloc::{AllocError, Global};
 use std::marker::Model;
 
-/// Lists, numbered from 0. Contracts see them as a list of lists. `items` has the items of all lists, and `ends` the place in
-/// it where each list ends. A list takes 4 bytes beside its items. At most 2^32 - 1 items fit.
+/// Lists, numbered from 0. Contracts see them as a list of lists. `items` has the items of all lists, and `ends` the
+/// place in it where each list ends. A list takes 4 bytes beside its items. At most 2^32 - 1 items fit in all.
 #[derive(Drop)]
 pub struct FlatLists<T: Copy> {
     items: Vec<T>,
@@ -62,7 +62,7 @@ impl<T: Copy> FlatLists<T> {
         &self.items.as_slice()[from..to]
     }
 
-    /// Adds a list at the end. An error means out of memory, or that there would be more than 2^32 - 1 items.
+    /// Adds a list at the end. An error means out of memory, or that there would be more than 2^32 - 1 items in all.
     pub fn push(&mut self, list: &[T]) -> Result<(), AllocError>
         ensures ok { OnOk result (self.new ≡ self.old ++ list.now ∷ []) }
         ensures err { OnErr result (self.new ≡ self.old) }

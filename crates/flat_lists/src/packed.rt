@@ -42,7 +42,8 @@ pub fn pack(alloc: Global, numbers: &[u32]) -> Result<Vec<u16>, AllocError>
     Ok(units)
 }
 
-/// The numbers that these units stand for. An error means out of memory.
+/// The numbers that these units stand for. Units at the end that are not a whole number stand for none. An error means
+/// out of memory.
 pub fn unpack(alloc: Global, units: &[u16]) -> Result<Vec<u32>, AllocError>
     ensures { IfOk result (λ v. v.items ≡ numbers_of units.now) }
 {

@@ -78,8 +78,8 @@ pub fn awaits<'a>(program: &'a Program, awaited: u32, name: u32, thing: &ObjectS
     }
 }
 
-/// Whether the object of this name is the one that is awaited, `others.name`, or awaits it, or has a name below the bound
-/// and knows only other names.
+/// Whether the object of this name is the one that is awaited, `others.name`, or awaits it, or has a name below the
+/// bound and knows only other names.
 pub fn is_fit<'a>(
     program: &'a Program,
     others: OtherNames,
@@ -93,7 +93,7 @@ pub fn is_fit<'a>(
         || (name < others.next && others.has_object(thing))
 }
 
-/// Whether the message has only other names.
+/// Whether each name of an object among the arguments of the message is one of the other names.
 pub fn is_mail_other(others: OtherNames, mail: &Mail) -> bool
     ensures { result ≡ is_message_other others.next others.name (message_of mail.now) }
 {

@@ -17,7 +17,7 @@ pub struct OtherNames {
     pub name: u32,
 }
 
-/// Whether each of these values is none of an object, or one of an object with another name.
+/// Whether each of these values that is the name of an object is one of the other names.
 pub fn are_values_other(others: OtherNames, values: &[Value]) -> bool
     ensures { result ≡ list_all (value_is_other others.next others.name) values.now }
 {

@@ -25,8 +25,8 @@ impl Model for LabelList {
     ghost view = { λ l. labels_in l.parts.items };
 }
 
-/// The number of local transitions in this part, if one more of this object can be added to it. None if the part is another
-/// label, or has 2^32 - 1 of them.
+/// The number of local transitions in this part, if one more of this object can be added to it. None if the part is
+/// another label, or has 2^32 - 1 of them.
 fn has_room(part: &Part, object: u32) -> Option<u32>
     ensures { IfSome result (λ n. (part.now ≡ P.Local object n) × (n + 1 < 2 ^ 32)) }
 {
@@ -55,8 +55,8 @@ impl LabelList {
         }
     }
 
-    /// Adds a local transition of this object to the last part, if that has such ones and room for one more. Returns whether
-    /// it did.
+    /// Adds a local transition of this object to the last part, if that has such ones and room for one more. Returns
+    /// whether it did.
     fn count(&mut self, object: u32) -> bool
         ensures counted { result ≡ true → self.new ≡ self.old ++ L.Local object ∷ [] }
         ensures unchanged { result ≡ false → self.new ≡ self.old }

@@ -4,7 +4,8 @@ ghost use Rattle.label_list.specs.Parts.{label_of, times_of};
 
 use run_types::Label;
 
-/// A part of a list of labels: local transitions of one object, or one label.
+/// A part of a list of labels. `Local`: `times` local transitions of one object, which are 1 to 2^32 - 1 in a list.
+/// `Other`: one label that is not local.
 #[derive(Clone, Copy)]
 pub enum Part {
     Local { object: u32, times: u32 },

@@ -18,7 +18,7 @@ pub fn push_pair(text: &mut Vec<u8>, word: &[u8], one: u32, other: u32) -> Resul
     push_object(text, other)
 }
 
-/// Appends a message: a keyword, the names of two objects, a method and its arguments.
+/// Appends a message: a keyword, the names of two objects, a method and its arguments. An error means out of memory.
 pub fn push_message(
     text: &mut Vec<u8>,
     names: &Names,
@@ -35,7 +35,7 @@ pub fn push_message(
     push_args(text, args)
 }
 
-/// Appends a keyword and the name of an object.
+/// Appends a keyword and the name of an object. An error means out of memory.
 pub fn push_about(text: &mut Vec<u8>, word: &[u8], object: u32) -> Result<(), AllocError>
     ensures { OnOk result (text.new.items ≡ text.old.items ++ led (word.now ∷ object_text object ∷ [])) }
 {
@@ -43,7 +43,8 @@ pub fn push_about(text: &mut Vec<u8>, word: &[u8], object: u32) -> Result<(), Al
     push_object(text, object)
 }
 
-/// Appends a transition in the words of a record, with the number of times it is made.
+/// Appends a transition in the words of a record. Only a local one has `times`, the number of times that it is made,
+/// after these words. An error means out of memory.
 pub fn push_label(
     text: &mut Vec<u8>,
     names: &Names,

@@ -131,7 +131,7 @@ fn full_text(kind: FullKind) -> &'static [u8]
     }
 }
 
-/// Appends the words of an event and of its effect, each after a space.
+/// Appends the words of an event and of its effect, each after a space. An error means out of memory.
 #[tactic(auto, using(crate::proofs::AppendedWords::led_more))]
 pub fn push_effect(
     text: &mut Vec<u8>,
@@ -145,7 +145,7 @@ pub fn push_effect(
     push_what(text, names, what)
 }
 
-/// Appends an end line.
+/// Appends an end line with its line feed. An error means out of memory.
 pub fn push_end(text: &mut Vec<u8>, names: &Names, end: End) -> Result<(), AllocError>
     ensures { OnOk result (text.new.items ≡ text.old.items ++ line_text names.now (R.End end)) }
 {
@@ -186,7 +186,7 @@ fn push_event_line(
     text.extend_from_slice(b"\n")
 }
 
-/// Appends a line of a record, in the first form. An error means out of memory.
+/// Appends a line of a record with its line feed, in the first form. An error means out of memory.
 pub fn push_line(text: &mut Vec<u8>, names: &Names, line: &Line) -> Result<(), AllocError>
     ensures { OnOk result (text.new.items ≡ text.old.items ++ line_text names.now line.now) }
 {
@@ -218,7 +218,8 @@ fn push_item_line(text: &mut Vec<u8>, names: &Names, item: Item) -> Result<(), A
     text.extend_from_slice(b"\n")
 }
 
-/// Appends the text of the item that an event writes, and nothing for other events.
+/// Appends the item that an event writes and a line feed, and nothing for other events. A string has no quotes. An
+/// error means out of memory.
 pub fn push_written(text: &mut Vec<u8>, names: &Names, what: &What) -> Result<(), AllocError>
     ensures { (n : ℕ) (e : OneEvent) → OnOk result (text.new.items ≡ text.old.items ++ writes_of names.now (R.Event n e what.now)) }
 {

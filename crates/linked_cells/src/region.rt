@@ -57,7 +57,7 @@ impl<T, A: Allocator> Model for Deed<T, A> {
     ghost also_shares = { λ _ _ _. ftrue };
 }
 
-/// Allocates a block of `len` empty cells.
+/// Allocates a block of `len` empty cells. An error means out of memory.
 pub fn allocate<T, A: Allocator>(
     alloc: &A,
     len: usize,

@@ -12,8 +12,9 @@ use std::collections::HashMap;
 use std::hash::{FoldHasher, Hasher};
 use std::marker::Model;
 
-/// Lists of messages, numbered from 0. Contracts see them as a list of lists. `lists` has the numbers of their messages, and
-/// `latest` the last list of each hash. At most 2^32 lists fit. A list can have two numbers after a collision of hashes.
+/// Lists of messages, numbered from 0. Contracts see them as a list of lists. `lists` has the numbers of their
+/// messages. `latest` has the last list of each hash, and no proof depends on it. At most 2^32 lists fit, with fewer
+/// than 2^32 numbers in all. A list can have two numbers after a collision of hashes.
 #[derive(Drop)]
 pub struct MailLists {
     alloc: Global,
@@ -50,8 +51,8 @@ fn mark_numbers(numbers: &[u32]) -> u64 {
     mark.finish()
 }
 
-/// The numbers of these messages; new messages are added to the table. An error means out of memory, or that there are 2^32
-/// messages.
+/// The numbers of these messages; new messages are added to the table. An error means out of memory, or that there are
+/// 2^32 messages.
 fn numbers_of(alloc: Global, table: &mut Mails, mails: &[Mail]) -> Result<Vec<u32>, AllocError>
     ensures grows { take (length (messages_of table.old)) (messages_of table.new) ≡ messages_of table.old }
     ensures below { IfOk result (λ v. IsBelow (length (messages_of table.new)) v.items) }
@@ -136,7 +137,8 @@ impl MailLists {
     }
 
     /// The number of a list of these messages, which is added unless it was found. None if it is new and there are 2^32
-    /// lists. An error means out of memory, or that there are 2^32 messages, or 2^32 numbers of messages in all lists.
+    /// lists. An error means out of memory, or that there would be more than 2^32 messages, or 2^32 or more numbers in
+    /// all lists. Messages may then have been added, but no list.
     pub fn number_of(&mut self, mails: &[Mail]) -> Result<Option<u32>, AllocError>
         ensures found { IfOk result (λ o. IfSome o (λ n. slice_get self.new n ≡ Some (map message_of mails.now))) }
         ensures grows { take (length self.old) self.new ≡ self.old }

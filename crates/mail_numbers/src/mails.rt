@@ -10,8 +10,8 @@ use std::alloc::{AllocError, Global};
 use std::collections::HashMap;
 use std::hash::{FoldHasher, Hasher};
 
-/// At most 2^32 messages, numbered from 0. `latest` has the last number of each hash. A message can have two numbers
-/// after a collision of hashes.
+/// At most 2^32 messages, numbered from 0. `latest` has the last number of each hash, and no proof depends on it. A
+/// message can have two numbers after a collision of hashes.
 #[derive(Drop)]
 pub struct Mails {
     items: Vec<Mail>,

@@ -77,8 +77,8 @@ impl MessageQueue {
         }
     }
 
-    /// Makes a queue of these messages, the oldest first. They are all early, so it takes memory for a list alone, and each is
-    /// found by a walk. Reports `AllocError` if memory runs out.
+    /// Makes a queue of these messages, the oldest first. They are all early, so it takes memory for a list alone, and
+    /// each is found by a walk. Reports `AllocError` if memory runs out.
     pub fn of(alloc: Global, mails: &[Mail]) -> Result<MessageQueue, AllocError>
         ensures { IfOk result (λ q. q ≡ mails.now) }
     {
@@ -92,8 +92,8 @@ impl MessageQueue {
         })
     }
 
-    /// Puts a message last. Reports `AllocError`, and changes nothing, if memory runs out or if 2^64 messages came behind
-    /// early ones.
+    /// Puts a message last. Reports `AllocError`, and changes nothing, if memory runs out or if 2^64 - 1 messages came
+    /// behind early ones.
     pub fn push(&mut self, mail: Mail) -> Result<(), AllocError>
         ensures ok { OnOk result (self.new ≡ self.old ++ mail ∷ []) }
         ensures err { OnErr result (self.new ≡ self.old) }

@@ -22,8 +22,8 @@ use std::alloc::{AllocError, Global};
 const FEW: usize = 64;
 
 /// Where an answer is: the index of its class in the unit, the index of its method in the class (None: the body), the
-/// index of its instruction in the code, and the number of its alternative, from 1. The order of places is that of these
-/// four, one after the other.
+/// index of its instruction in the code, and the number of its alternative, from 1. The order of places is that of
+/// these four, one after the other.
 #[derive(Clone, Copy, PartialEq, Eq, PartialOrd, Ord)]
 pub struct AnswerPlace {
     pub class: usize,
@@ -159,8 +159,8 @@ fn different(alloc: Global, names: &[NameId]) -> Result<Option<List<NameId>>, Al
     Ok(Some(once))
 }
 
-/// The names that alternative `alt` of a slot, counted from 1, answers. If they are more than 64, of which at most 64 are
-/// different, each comes once. None exactly if the alternative is plain, is not open, or does not exist.
+/// The names that alternative `alt` of a slot, counted from 1, answers. If they are more than 64, of which at most 64
+/// are different, each comes once. None exactly if the alternative is plain, is not open, or does not exist.
 #[inline(always)]
 pub(crate) fn names_of<'a>(
     unit: &'a Unit,
@@ -204,8 +204,8 @@ fn place_of(heap: &Heap, slot: u32, alt: u32) -> AnswerPlace
     }
 }
 
-/// The names of the long answer at this place, each once. If more than 64 are different, the names as they are. Long answers
-/// are rare, so it is not inlined.
+/// The names of the long answer at this place, each once. If more than 64 are different, the names as they are. Long
+/// answers are rare, so it is not inlined.
 #[inline(never)]
 fn each_once<'a>(
     long: &'a [LongAnswer],

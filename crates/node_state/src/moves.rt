@@ -57,7 +57,7 @@ impl NodeParts {
     }
 
     /// Returns the value of the innermost method of a slot to its caller, and drops the caller's request number. The
-    /// method ends. If it has statements after its value, it continues for no caller.
+    /// method ends, unless it has statements after its value. With those it continues for no caller.
     pub fn end_method(&mut self, unit: &Unit, slot: u32)
         requires whole { NodeInvariant self.old }
         requires unit { IsOfUnit unit.now (node_of self.old) }
@@ -140,8 +140,8 @@ impl NodeParts {
         number
     }
 
-    /// Removes the first message of a slot that alternative `alt` answers, starts its method through the alternative, and
-    /// returns the message. Requires a free frame. Returns None, and changes nothing, if there is no such message.
+    /// Removes the first message of a slot that alternative `alt` answers, starts its method through the alternative,
+    /// and returns the message. Requires a free frame. Returns None, and changes nothing, if there is no such message.
     pub fn serve(&mut self, unit: &Unit, slot: u32, alt: u32) -> Option<Message>
         requires whole { NodeInvariant self.old }
         requires unit { IsOfUnit unit.now (node_of self.old) }

@@ -19,10 +19,11 @@ use object_interp::can_step_alone;
 use rendezvous_protocol::Outstanding;
 use run_types::{Error, List};
 
-/// The state of a node. For each slot, `faults` has the run-time error of its object, and `ready` says whether it can
-/// step. `goals` has the node to which the last request of the slot for a new object went. For each class of the unit,
-/// `made` counts the objects that the node's objects have made. `long` has the long answers of the unit. `last` is the slot
-/// that stepped last.
+/// The state of a node. `id` is its number. `cells` is the limit of the messages in its mailbox and the packets on the
+/// links that leave it, together. For each slot, `faults` has the run-time error that its object has met, if any, and
+/// `ready` says whether it can step. `goals` has the node to which the last request of the slot for a new object went.
+/// For each class of the unit, `made` counts the objects that the node's objects have made. `long` has the long answers
+/// of the unit. `last` is the slot that stepped last.
 #[derive(Drop)]
 pub struct NodeParts {
     pub id: u32,

@@ -107,7 +107,7 @@ fn slot_turn(
     }
 }
 
-/// The least ready slot from `from` on.
+/// The least ready slot from `from` on. None exactly if there is none.
 pub fn first_ready(parts: &NodeParts, from: u32) -> Option<u32>
     requires whole { NodeInvariant parts.now }
     ensures { result ≡ first_bit_from from (take (length parts.now.heap.objects) parts.now.ready) }
@@ -174,7 +174,8 @@ fn step_of(
     told
 }
 
-/// Makes a turn of a node.
+/// Makes a turn of a node: the object whose turn it is makes up to `quantum` local transitions, or one other step.
+/// Returns `Idle` exactly if no object is ready, and `Full` exactly if the step would exceed a limit of the node.
 pub fn turn_of(
     plan: &NodePlan<'_>,
     parts: &mut NodeParts,

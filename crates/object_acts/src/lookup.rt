@@ -10,7 +10,7 @@ use pool_syntax::{ClassDecl, Method, Program};
 use run_types::Value;
 use stepper_terms::contexts::Binding;
 
-/// The value of the first variable of this name.
+/// The value of the first variable of this name. None if there is none.
 pub fn value_of(bindings: &[Binding], name: u32) -> Option<Value>
     ensures { result ≡ value_of bindings.now name }
 {
@@ -24,7 +24,7 @@ pub fn value_of(bindings: &[Binding], name: u32) -> Option<Value>
     None
 }
 
-/// The first class of this name.
+/// The first class of this name. None if there is none.
 pub fn find_class<'a>(program: &'a Program, name: u32) -> Option<&'a ClassDecl>
     ensures { class_seen result ≡ class_of (program_of program.now) name }
 {

@@ -1,4 +1,5 @@
--- Decodes the bytes of an object code file: gives the file, the first byte that the format does not allow at its place, or the first duplicate name.
+-- Decodes the bytes of an object code file: gives the file, the first byte that the format does not allow at its place,
+-- or the first duplicate name.
 use Rattle.std.specs.Prelude.{ℕ, suc, ◌-◌, ◌==◌, List, [], ◌∷◌, length, map, Option, Some, None, Bool, true, false, if◌then◌else◌}
 use Rattle.std.specs.Int.{w64, from_be_bytes, cast_signed}
 use Rattle.text_scan.specs.Text.{Text}
@@ -146,7 +147,8 @@ behind_front u bs = then_read (read_list read_text bs) behind_names
 abbrev pub read_file : Reader UnitFile
 read_file bs = then_read (read_exactly head_bytes bs) behind_front
 
--- the place of the first text that equals an earlier one; the earlier ones are also those in `before`, and the first of the list has the place n
+-- the place of the first text that equals an earlier one; the earlier ones are also those in `before`, and the first of
+-- the list has the place n
 abbrev pub first_twice : ℕ → List Text → List Text → Option ℕ
 first_twice n before [] = None
 first_twice n before (x ∷ xs) = if is_among before x then Some n else first_twice (suc n) (x ∷ before) xs

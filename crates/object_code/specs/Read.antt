@@ -1,4 +1,5 @@
--- Readers of bytes from the front: each gives a value and the bytes that are left, or the number of bytes from the first bad byte to the end.
+-- Readers of bytes from the front: each gives a value and the bytes that are left, or the number of bytes from the
+-- first bad byte to the end.
 use Rattle.std.specs.Prelude.{ℕ, zero, suc, List, [], ◌∷◌, length, take, drop, Some, None, nat_le, slice_get, if◌then◌else◌}
 use Rattle.std.specs.Int.{w32, from_be_bytes}
 use Rattle.text_scan.specs.Text.{Text}

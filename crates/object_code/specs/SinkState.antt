@@ -12,7 +12,8 @@ pub record State : Type 0 where
 abbrev pub state : Bool → Option Text → ℕ → State
 state b w n = record { failed = b; written = w; faults = n }
 
--- The text was written completely, or only a proper prefix of it because a write failed, or not at all because a write had failed before.
+-- The text was written completely, or only a proper prefix of it because a write failed, or not at all because a write
+-- had failed before.
 pub data Writes (text : Text) (a b : State) : Type 0 where
   whole : (a.failed ≡ false) → (b.failed ≡ false) → (b.written ≡ option_map (λ w. w ++ text) a.written) → (b.faults ≡ a.faults) → Writes text a b
   cut : (a.failed ≡ false) → (b.failed ≡ true) → IsProperFront a.written text b.written → (a.faults ≤ b.faults) → Rose a.faults b.faults → Writes text a b

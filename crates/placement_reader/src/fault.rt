@@ -6,10 +6,11 @@ use std::alloc::AllocError;
 use thiserror::Error;
 
 /// The fault of a placement. Lines are numbered from 1. The first line with a fault counts, and of its faults the first
-/// in this order.
+/// in this order. `TooLarge` comes only if no line has a fault, and `NoRoute` only if the nodes are not too large.
 #[derive(Clone, Copy, Debug, Error)]
 pub enum PlacementFault {
-    /// The line has none of the forms of a placement's line, or it is the first content line and no `mesh` line.
+    /// The line has none of the forms of a placement's line, or it is the first content line and no `mesh` line. If
+    /// there is no content line, `line` is the number of lines plus 1.
     #[error("line {line} has no form of a placement")]
     BadLine { line: u32 },
     /// The line places a class that the unit does not have.
@@ -24,7 +25,8 @@ pub enum PlacementFault {
     /// A number is out of its range, or the goal of a route is its node.
     #[error("line {line} has a number out of its range")]
     OutOfRange { line: u32 },
-    /// The nodes need this number of words of memory, which is more than 16,777,216.
+    /// The nodes need this number of words of memory, which is more than 16,777,216. A variable takes 1 word, a frame
+    /// 96 words, and a cell 24.
     #[error("the nodes take {words} words")]
     TooLarge { words: u64 },
     /// Out of memory.

@@ -1,4 +1,5 @@
--- Programs whose counts are within the limits of the language, and code whose places are below 2^32 and whose frames have at most 96 words.
+-- Programs whose counts are within the limits of the language, and code whose places are below 2^32 and whose frames
+-- have at most 96 words.
 use Rattle.std.specs.Prelude.{suc, ◌≤◌, ◌<◌, ◌^◌, ◌++◌, List, [], ◌∷◌, length}
 use Rattle.pool_syntax.specs.Terms.{MethodTree, ClassTree, ProgramTree}
 use Rattle.code_semantics.specs.declared.unit.MethodCode.{MethodCode}

@@ -108,7 +108,8 @@ Behind c over post q =
     (IsTrue over × (slice_get c q ≡ Some I.Ret))
     ⊎ ((over ≡ false) × (slice_get c q ≡ Some I.Post) × ((p : ℕ) × (slice_get c p ≡ Some I.Ret) × ((b : List Value) → post b (fresh (suc q) b) p)))
 
--- a method under way, for the caller or for no one: in its statements, in its value, or in its post statements; these begin only after the return to a caller
+-- a method under way, for the caller or for no one: in its statements, in its value, or in its post statements; these
+-- begin only after the return to a caller
 abbrev pub InMethod : List Instr → Option ℕ → (Point → ℕ → Type 0) → Bool → (Point → ℕ → Type 0) → Option Value → PointsOf → Bool → Point → Type 0
 InMethod c caller statements done value known post over s =
     ((q : ℕ) × Behind c over post q × (((r : ℕ) × statements s r × value (fresh r []) q) ⊎ (IsTrue done × value s q)))

@@ -13,6 +13,7 @@ pub struct Builder {
 }
 
 impl Builder {
+    /// No instructions. It takes no memory.
     pub fn make(alloc: Global) -> Builder
         ensures { result.code ≡ [] }
     {

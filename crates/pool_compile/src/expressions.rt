@@ -10,7 +10,8 @@ use code_semantics::Instr;
 use pool_syntax::Expr;
 use std::alloc::AllocError;
 
-/// Appends the code of an expression. The code pushes the value. Reports an error if out of memory.
+/// Appends the code of an expression. The code pushes the value. Reports an error if out of memory, or if there would
+/// be 2^32 instructions.
 #[cycle(expressions)]
 pub fn emit(code: &mut Builder, numbers: &Numbers<'_>, expr: &Expr) -> Result<(), AllocError>
     ensures { OnOk result (code.new.code ≡ code.old.code ++ expression_code (numbering numbers.now) (expression_of expr.now)) }
@@ -56,7 +57,8 @@ pub fn emit(code: &mut Builder, numbers: &Numbers<'_>, expr: &Expr) -> Result<()
     }
 }
 
-/// Appends the code of expressions, one after another. Reports an error if out of memory.
+/// Appends the code of expressions, one after another. Reports an error if out of memory, or if there would be 2^32
+/// instructions.
 #[cycle(expressions)]
 pub fn emit_all(code: &mut Builder, numbers: &Numbers<'_>, exprs: &[Expr]) -> Result<(), AllocError>
     ensures { OnOk result (code.new.code ≡ code.old.code ++ expressions_code (numbering numbers.now) (expressions_of exprs.now)) }

@@ -134,7 +134,7 @@ fn emit_statement(
     }
 }
 
-/// Appends the code of statements. Reports an error if out of memory, or if there are 2^32 instructions.
+/// Appends the code of statements. Reports an error if out of memory, or if there would be 2^32 instructions.
 #[cycle(statements)]
 pub fn emit_statements(
     alloc: Global,

@@ -35,7 +35,9 @@ fn make_times(plain: &mut Plain<'_>, label: &Label, times: u32) -> Result<Option
     Ok(None)
 }
 
-/// Applies the labels that a line shows, up to the first that is impossible. An error means out of memory.
+/// Applies the labels that a line shows, up to the first that is impossible.
+/// Returns the line if a label is impossible, and None if all labels were applied.
+/// An error means out of memory, or that an object would have more than 1,000,000 methods under way.
 pub fn follow_line(plain: &mut Plain<'_>, line: &Line) -> Result<Option<Mismatch>, AllocError>
     ensures program { program_tree plain.new ≡ program_tree plain.old }
     ensures going_on { IfOk result (λ _. is_spent plain.old ≡ false → is_spent plain.new ≡ false) }
@@ -60,7 +62,7 @@ pub fn follow_line(plain: &mut Plain<'_>, line: &Line) -> Result<Option<Mismatch
 }
 
 /// Applies the labels that the lines show, up to the first that is impossible.
-/// Returns that line, or None if all labels were applied. An error means out of memory.
+/// Returns that line, or None if all labels were applied. An error means the same as for `follow_line`.
 pub fn follow(plain: &mut Plain<'_>, lines: &[Line]) -> Result<Option<Mismatch>, AllocError>
     ensures program { program_tree plain.new ≡ program_tree plain.old }
     ensures going_on { IfOk result (λ _. is_spent plain.old ≡ false → is_spent plain.new ≡ false) }

@@ -25,7 +25,7 @@ pub fn judge_end(plain: &Plain<'_>, lines: &[Line]) -> Verdict
 }
 
 /// Decides whether a record is a run of the program. It checks the labels and the `quiet` end, but no delays.
-/// An error means out of memory.
+/// An error means out of memory, or that an object would have more than 1,000,000 methods under way.
 /// The time is proportional to the transitions that the lines show. One line shows fewer than 2^32 transitions.
 pub fn check_record(
     alloc: Global,

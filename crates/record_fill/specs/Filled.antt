@@ -78,8 +78,8 @@ pub record IsSame (ls fs : List Line) : Type 0 where
   pub numbered : AreNumbered 0 fs
 
 -- The lines fs are the lines ls with local transitions filled in, and v is the verdict on them.
--- An impossible line is one of ls, and before it each object that takes part is at rest. Before a quiet end where an object
--- can move, all objects are.
+-- An impossible line is one of ls, and before it each object that takes part is at rest. Before a quiet end where an
+-- object can move, all objects are.
 abbrev pub IsFilled : ProgramTree → List Line → List Line → Verdict → Type 0
 IsFilled p ls fs V.Yes = IsSame ls fs × IsRunOf p fs
 IsFilled p ls fs (V.No number redex) =

@@ -143,7 +143,8 @@ pub record Ends (f g : Filling) (end : End) (v : Verdict) : Type 0 where
   pub judged : LeadsTo (program_tree f.plain) g.lines (configuration_of g.plain) → Judged (program_tree f.plain) g.lines v
   pub rests : is_quiet_end (R.End end) ≡ true → AllAtRest (program_tree f.plain) (f.lines ++ filled) (configuration_of g.plain)
 
--- nothing was filled in so far, and the configuration is the start of the first object that makes a transition which is not local
+-- nothing was filled in so far, and the configuration is the start of the first object that makes a transition which is
+-- not local
 pub record Begins (lines : List Line) (f : Filling) : Type 0 where
   pub fresh : is_spent f.plain ≡ false
   pub starts : start (program_tree f.plain) (root (without_local lines)) ≡ Some (configuration_of f.plain)

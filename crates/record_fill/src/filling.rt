@@ -134,8 +134,8 @@ impl<'a> Filling<'a> {
         Ok(())
     }
 
-    /// Makes the transitions of a line and appends it. Returns the redex of the object whose transition is impossible, if one
-    /// is. An error means out of memory.
+    /// Makes the transitions of a line and appends it. Returns the redex of the object whose transition is impossible,
+    /// if one is. An error means out of memory.
     fn make(&mut self, line: &Line) -> Result<Option<Redex>, AllocError>
         ensures lines { OnOk result (self.new.lines ≡ self.old.lines ++ renumbered self.old.last line.now ∷ []) }
         ensures last { OnOk result (self.new.last ≡ number_after self.old.last line.now) }

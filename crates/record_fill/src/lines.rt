@@ -36,7 +36,7 @@ pub fn shows_local(line: &Line) -> bool
     )
 }
 
-/// The caller that the transition answers.
+/// The caller that the transition answers. None if it is no answer.
 pub fn caller_of(label: &Label) -> Option<u32>
     ensures { result ≡ caller_of label.now }
 {

@@ -150,8 +150,8 @@ pub fn make_table(alloc: Global, loaded: &Loaded) -> Result<Asks, AllocError>
     Asks::make(alloc, placement.width * placement.height, placement.objects)
 }
 
-/// Makes the events of a schedule until all is quiet or a node is full. Requires a machine at its start.
-/// Writes each line in the form of `show`, except the end line. Stops at the first write that fails.
+/// Makes the events of a schedule until all is quiet, a node is full or the schedule ends. Requires a machine at its
+/// start. Writes each line in the form of `show`, except the end line. The error comes at the first write that fails.
 pub fn drive<K: Sink>(
     machine: &mut Machine<'_>,
     asks: &mut Asks,

@@ -58,8 +58,8 @@ fn run_loaded<'a, K: Sink>(
     }
 }
 
-/// Makes a run, and writes it in the form of `show`. Returns the status of the run, `WriteFault`, or `Memory`.
-/// All memory is taken before the first byte is written.
+/// Makes a run, and writes it in the form of `show`, with `Report` the end line alone. Returns the status of the run,
+/// `WriteFault` if a write fails, or `Memory`, with nothing written, if memory runs out.
 pub fn write_run<K: Sink>(alloc: Global, out: &mut K, show: Show, loaded: &Loaded) -> Status
     requires { IsLoaded loaded.now.unit loaded.now.placement loaded.now.schedule }
     ensures { Delivers (writing K.written K.faults out.old out.new) (shown_record show loaded.now.unit.names (lines_of loaded.now)) (status_of (lines_of loaded.now)) result }
@@ -70,9 +70,8 @@ pub fn write_run<K: Sink>(alloc: Global, out: &mut K, show: Show, loaded: &Loade
     }
 }
 
-/// Makes a run, and writes the status of each object at its end.
-/// Returns the status of the run, `WriteFault`, or `Memory`.
-/// All memory is taken before the first byte is written.
+/// Makes a run, and writes the status of each object at its end, the cycles of calls among them, and the end line.
+/// Returns the status of the run, `WriteFault` if a write fails, or `Memory`, with nothing written, if memory runs out.
 pub fn write_why<K: Sink>(alloc: Global, out: &mut K, loaded: &Loaded) -> Status
     requires { IsLoaded loaded.now.unit loaded.now.placement loaded.now.schedule }
     ensures { Delivers (writing K.written K.faults out.old out.new) (run_text Show.Report loaded.now) (status_of (lines_of loaded.now)) result }
@@ -123,8 +122,8 @@ fn write_counts<K: Sink>(
     }
 }
 
-/// Makes a run, and writes its counts and its end line. Returns the status of the run, `WriteFault`, or `Memory`.
-/// All memory is taken before the first byte is written.
+/// Makes a run, and writes its counts of events, transitions and moves, and its end line. Returns the status of the
+/// run, `WriteFault` if a write fails, or `Memory`, with nothing written, if memory runs out.
 pub fn write_ring<K: Sink>(alloc: Global, out: &mut K, loaded: &Loaded) -> Status
     requires { IsLoaded loaded.now.unit loaded.now.placement loaded.now.schedule }
     ensures { Delivers (writing K.written K.faults out.old out.new) (ring_text loaded.now.unit.names (lines_of loaded.now)) (status_of (lines_of loaded.now)) result }

@@ -78,9 +78,9 @@ fn rows_in(
     Ok(rows)
 }
 
-/// Writes the status of each object of a machine, and then the
-/// end line. Requires a machine that represents a configuration.
-/// Returns the status of the run, `WriteFault`, or `Memory`. All memory is taken before the first byte is written.
+/// Writes the status of each object of a machine, the cycles of calls among them, and the end line. Requires a machine
+/// that represents a configuration.
+/// Returns the status of the run, `WriteFault` if a write fails, or `Memory`, with nothing written, if memory runs out.
 pub fn write_report<K: Sink>(
     alloc: Global,
     machine: &Machine<'_>,

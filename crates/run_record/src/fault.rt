@@ -12,8 +12,8 @@ pub enum RecordFault {
     /// 1.
     #[error("line {line} has no form of a record")]
     BadLine { line: u32 },
-    /// The line is out of order. The number of an event must be the last number plus 1, and at most 2,000,000. The
-    /// number of the end must be the number of events. No line may come after the end.
+    /// The line is out of order. The number of an event must be the last number plus 1. In a record that is read whole
+    /// it is at most 2,000,000. The number of the end must be the number of events. No line may come after the end.
     #[error("line {line} is out of order")]
     OutOfOrder { line: u32 },
     /// The line carries another request number than that of the post that it answers.

@@ -6,12 +6,12 @@ use std::alloc::AllocError;
 use thiserror::Error;
 
 /// The fault of a schedule. Lines are numbered from 1. The first line with a fault counts, and of its faults the first
-/// in this order.
+/// in this order. `TooManyEvents` comes only if no line has a fault.
 #[derive(Clone, Copy, Debug, Error)]
 pub enum ScheduleFault {
     /// The line has none of the forms of a schedule's line. The first content line must be a `quantum` line, and no
     /// other may be one. Only the second content line may be `wires lossy`, and only after it may a line name an event
-    /// of wires.
+    /// of wires. If there is no content line, `line` is the number of lines plus 1.
     #[error("line {line} has no form of a schedule")]
     BadLine { line: u32 },
     /// A node of the line is not in the mesh.

@@ -1,4 +1,4 @@
-//! Reads a schedule: a quantum and events, found by number; or the fault of its first faulty line.
+//! Reads a schedule: a quantum and events, found by number; or its first fault.
 //!
 //! Does not know: the effect of events.
 #![tactic(auto)]

@@ -67,7 +67,7 @@ fn wire(act: Option<WireAct>, first: &[u8], second: &[u8], count: Option<u64>) -
     })
 }
 
-/// The entry of a line with three words: one wire event between two nodes.
+/// The entry of a line with three words: one wire event between two nodes. None if they have another form.
 pub fn wire_of_three(word: &[u8], first: &[u8], second: &[u8]) -> Option<Entry>
     ensures { result ≡ wire_of_three word.now first.now second.now }
 {
@@ -75,7 +75,8 @@ pub fn wire_of_three(word: &[u8], first: &[u8], second: &[u8]) -> Option<Entry>
     wire(act, first, second, Some(1))
 }
 
-/// The entry of a line with four words: an event on an acknowledgement, or a wire event with a count.
+/// The entry of a line with four words: an event on an acknowledgement, or a wire event with a count. None if they have
+/// another form.
 pub fn wire_of_four(word: &[u8], first: &[u8], second: &[u8], third: &[u8]) -> Option<Entry>
     ensures { result ≡ wire_of_four word.now first.now second.now third.now }
 {

@@ -94,7 +94,8 @@ pub record IsKept (lists : List (List Stamped)) (cells next objects : ℕ) : Typ
 -- ---- how a message is found
 
 module _ (lists : List (List Stamped)) (n : ℕ) where
-  -- b is a queue and the stamp of its front message, which is wanted, and the earliest of all that are wanted in the first n queues
+  -- b is a queue and the stamp of its front message, which is wanted, and the earliest of all that are wanted in the
+  -- first n queues
   pub record IsEarliest (Wanted : ℕ → Stamped → Type 0) (b : ℕ × ℕ) : Type 0 where
     pub first : Stamped
     pub rest : List Stamped

@@ -38,7 +38,8 @@ pub record IsListed (n : ℕ) (l : List (List Stamped)) (waiting : Pool ℕ) : T
 abbrev pub IsListedIn : Lanes → Type 0
 IsListedIn l = IsListed (shared l.cells) l.pool.lists l.waiting
 
--- a shared queue got a message to a slot as its last one; before, the lists were right, and its messages were to that slot
+-- a shared queue got a message to a slot as its last one; before, the lists were right, and its messages were to that
+-- slot
 pub record IsPosted (l : Lanes) (queue to : ℕ) : Type 0 where
   pub former : List Stamped
   pub last : Stamped

@@ -27,7 +27,7 @@ impl Model for Behind {
 }
 
 impl Behind {
-    /// Makes empty queues.
+    /// Makes empty queues with cells for `cells` messages, for slots below `objects`. Returns `Err` if memory runs out.
     pub fn make(alloc: Global, objects: u32, cells: u32) -> Result<Behind, AllocError>
         ensures { IfOk result (λ m. m ≡ mail (replicate objects []) cells) }
     {

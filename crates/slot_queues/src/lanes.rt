@@ -22,9 +22,9 @@ pub struct Stamped {
 }
 
 /// The queues of a mailbox. The first `2 * cells + 8` are shared: a shared queue that is not empty has the messages of
-/// one method to one slot. A method of a slot may use eight of them, from its home on. Then there is a late queue for
-/// each slot, for messages that no shared queue takes. `waiting` has a list for each slot, of the shared queues that have
-/// messages to it. `next` is the next stamp.
+/// one method to one slot. A method of a slot may use eight of them, from its home on, which is a hash of both. Then
+/// there is a late queue for each slot, for messages that no shared queue takes. `waiting` has a list for each slot, of
+/// the shared queues that have messages to it. `next` is the next stamp.
 #[derive(Drop)]
 pub struct Lanes {
     pub(crate) pool: CellPool<Stamped>,
@@ -66,7 +66,7 @@ fn better(a: Option<(usize, u64)>, b: Option<(usize, u64)>) -> Option<(usize, u6
 }
 
 impl Lanes {
-    /// Allocates the queues.
+    /// Allocates the queues. Returns `Err` if memory runs out.
     pub(crate) fn make(alloc: Global, objects: u32, cells: u32) -> Result<Lanes, AllocError>
         ensures empty { IfOk result (λ l. (l.pool ≡ pool (replicate (shared cells + objects) []) cells) × (l.cells ≡ cells) × (l.next ≡ 0)) }
         ensures listed { IfOk result IsListedIn }
@@ -213,8 +213,8 @@ impl Lanes {
         None
     }
 
-    /// Appends a message to a shared queue, or else to the late queue of its slot. Returns the message as the error, and
-    /// changes nothing, if every cell is in use.
+    /// Appends a message to a shared queue, or else to the late queue of its slot. Returns the message as the error,
+    /// and changes nothing, if every cell is in use.
     pub(crate) fn post(&mut self, to: u32, message: Message) -> Result<(), Message>
         requires slot { shared self.old.cells + to < length self.old.pool.lists }
         requires listed { IsListedIn self.old }

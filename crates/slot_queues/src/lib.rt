@@ -1,4 +1,5 @@
-//! The messages of the slots of a node that stand behind the early ones: a queue for each slot and method, found by a hash.
+//! The messages of the slots of a node that stand behind the early ones: a queue for each slot and method, found by a
+//! hash.
 //!
 //! Does not know: the early messages of a slot, and when an object answers a message.
 #![tactic(auto)]

@@ -7,8 +7,9 @@ use run_types::{List, NameId};
 use std::alloc::{AllocError, Global};
 use std::marker::Model;
 
-/// The messages of all slots, for slots below `objects`. A message is found in the time of the names that it may have, or
-/// of the methods that wait for its slot.
+/// The messages of all slots, for slots below `objects`. A look-up tries eight shared queues for each name, or all
+/// shared queues with messages to the slot if these are fewer than the names. If it finds no message, it walks along
+/// the late queue of the slot. That is empty unless a message found no shared queue.
 pub struct Queues {
     lanes: Lanes,
     objects: u32,

@@ -281,7 +281,8 @@ fn work(
     ))
 }
 
-/// Parses any number of statements, with semicolons between them.
+/// Parses any number of statements, with semicolons between them, from token `at` on. Returns them and the number of
+/// the token after them. Reports `Unexpected` at the first token that is not expected, or `Memory`.
 #[cycle(statements)]
 pub fn statements(
     alloc: Global,

@@ -37,7 +37,8 @@ IsJudged p names ls text (V.No number redex) =
 IsJudged p names ls text (V.Moving o) =
     StillMoves p ls o × ((before : List Line) × EndsWith ls before × (text ≡ writes_text names before ++ verdict_text names (V.Moving o)))
 
--- The text for the bytes s of a stream. Before the judge stops, all lines are possible, and the text is what they write.
+-- The text for the bytes s of a stream. Before the judge stops, all lines are possible, and the text is what they
+-- write.
 abbrev pub IsFollowed : ProgramTree → List Text → Text → Text → Option Stop → Type 0
 IsFollowed p names s text None = (stream_fault s ≡ None) × (has_end (stream_lines names s) ≡ false) × IsFront p (stream_lines names s) × (text ≡ writes_text names (stream_lines names s))
 IsFollowed p names s text (Some (S.Faulty f)) = (stream_fault s ≡ Some f) × IsFront p (stream_lines names s) × (text ≡ writes_text names (stream_lines names s))

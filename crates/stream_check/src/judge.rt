@@ -211,9 +211,10 @@ impl<'a> Judge<'a> {
         })
     }
 
-    /// Judges the lines that the next bytes of the stream make whole, one after another, and appends what they write and
-    /// then, if one is impossible, the verdict. Returns why it reads no further, or None. An error means out of memory.
-    /// Requires a judge that has not run out of memory.
+    /// Judges the lines that the next bytes of the stream make whole, one after another, and appends what they write.
+    /// For an impossible line, and for a quiet end after which an object can move, it appends the verdict instead.
+    /// Returns why it reads no further, or None if it reads on. Requires a judge that has not run out of memory.
+    /// An error means out of memory, or that an object would have more than 1,000,000 methods under way.
     /// The time is proportional to the bytes and to the transitions that the lines show.
     pub fn read(
         &mut self,

@@ -1,5 +1,5 @@
-//! Tests of what no run shows: single acts of a node, request numbers, pools of cells, mailboxes, one wire, the bytes of
-//! frames, files and sinks in memory that fail, and the canonical texts of programs with class faults, which `pool`
+//! Tests of what no run shows: single acts of a node, request numbers, pools of cells, mailboxes, one wire, the bytes
+//! of frames, files and sinks in memory that fail, and the canonical texts of programs with class faults, which `pool`
 //! refuses.
 //!
 //! Expected answers come from handwritten rows, or from plain lists in long drawn series.

@@ -125,7 +125,8 @@ fn has_class(unit: &Unit) -> bool
     }
 }
 
-/// Makes a step of node 1, which has made at most as many objects of a class as it has made steps. None if the node may not make it.
+/// Makes a step of node 1, which has made at most as many objects of a class as it has made steps. None if the node may
+/// not make it.
 fn act_of(
     node: &mut Node,
     steps: u32,

@@ -6,6 +6,8 @@ use wire_link::Side;
 // At most sixteen frames are under way on a side.
 type Frames = ArrayVec<u32, 16>;
 
+/// The wire: the numbers of the packets that entered, were handed out and were acknowledged, the number of the frame to
+/// send next, and the frames on each side.
 #[derive(Drop)]
 pub struct Plain {
     pub entered: u32,
@@ -25,6 +27,7 @@ fn put(frames: &mut Frames, kind: Kind, number: Option<u32>) -> Told {
 }
 
 impl Plain {
+    /// Makes a wire that no packet has entered.
     pub fn make() -> Plain {
         Plain {
             entered: 0,
@@ -87,6 +90,7 @@ impl Plain {
         }
     }
 
+    /// The answer of the wire to this step.
     pub fn answer(&mut self, step: Step) -> Told {
         match step {
             Step::Wants => of_kind(Kind::Wants, self.wants()),

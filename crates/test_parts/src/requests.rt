@@ -7,8 +7,9 @@ use std::alloc::Global;
 /// No number of these slots.
 const NONE: u32 = u32::MAX;
 
-/// A slot, whose number is settled if it has one, and else issued. Behind it is the state after it: a mark for each slot,
-/// and the number of outstanding numbers. A slot with a number has the mark `n`. All other slots keep their numbers.
+/// A slot, whose number is settled if it has one, and else issued. Behind it is the state after it: a mark for each
+/// slot, and the number of outstanding numbers. A slot with a number has the mark `n`. All other slots keep their
+/// numbers.
 const ROWS: &[(u32, &str)] = &[
     (1, "-n- 1"),
     (0, "nn- 2"),

@@ -41,6 +41,7 @@ pub fn of_kind(kind: Kind, number: Option<u32>) -> Told {
     }
 }
 
+/// Whether two answers are the same.
 pub fn is_same(left: Told, right: Told) -> bool {
     left.0 as u8 == right.0 as u8 && left.1 == right.1
 }

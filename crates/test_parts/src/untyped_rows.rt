@@ -1,6 +1,8 @@
-//! Programs with class faults and their canonical texts, written by hand from the grammar and the rules of the canonical text.
+//! Programs with class faults and their canonical texts, written by hand from the grammar and the rules of the
+//! canonical text.
 
-/// A row has a statement that no well-formed class has, and its canonical text. A line that begins with two dashes is a heading.
+/// A row has a statement that no well-formed class has, and its canonical text. A line that begins with two dashes is a
+/// heading.
 pub const UNTYPED: &str = "\
 -- Operands of `or`: on the right `or` keeps its parentheses.
 write (a + b) or c | write a + b or c

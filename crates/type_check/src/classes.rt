@@ -19,7 +19,8 @@ pub struct Classes<'a> {
     pub ghost all_indexed: { AreIndexes methods.now list.now },
 }
 
-/// Reports for each class a map from the name of a method to the index of the first method with this name.
+/// Reports for each class a map from the name of a method to the index of the first method with this name. An
+/// error means out of memory.
 pub fn method_places(
     alloc: Global,
     classes: &[ClassDecl],

@@ -91,8 +91,8 @@ last_block o xs = last_of (if_block o) xs
 abbrev pub last_mail : ℕ → ℕ → List Part → Option Text
 last_mail s r xs = last_of (if_mail s r) xs
 
--- The last parts show the configuration d. The last block of each name is that of its object in d; a name without an object has no
--- block. The last line of each pair shows its messages in d; a pair without a line has no messages.
+-- The last parts show the configuration d. The last block of each name is that of its object in d; a name without an
+-- object has no block. The last line of each pair shows its messages in d; a pair without a line has no messages.
 pub record ShowsLast (names : List Text) (p : ProgramTree) (d : Configuration) (xs : List Part) : Type 0 where
   pub objects : (o : ℕ) → last_block o xs ≡ seen names p d o
   pub messages : (s r : ℕ) → MatchOption (last_mail s r xs) (messages_of d s r ≡ []) (λ t. t ≡ seen_mail names d s r)

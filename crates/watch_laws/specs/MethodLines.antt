@@ -11,7 +11,8 @@ method_words names o (Own m) = codes "own" ∷ object_text o ∷ text_at names m
 method_words names o (Serving m (Some k)) = codes "serve" ∷ object_text o ∷ text_at names m ∷ object_text k ∷ []
 method_words names o (Serving m None) = codes "take" ∷ object_text o ∷ text_at names m ∷ []
 
--- the text has a part for each of these methods under way, in this order; each begins with the words of its method, and ends with a line feed
+-- the text has a part for each of these methods under way, in this order; each begins with the words of its method, and
+-- ends with a line feed
 abbrev pub HasLineOfEach : List Text → ℕ → List Activity → Text → Type 0
 HasLineOfEach names o [] t = t ≡ []
 HasLineOfEach names o (a ∷ xs) t = (rest : Text) × (more : Text) × (t ≡ joined (method_words names o a) ++ (rest ++ 10 ∷ more)) × HasLineOfEach names o xs more

@@ -36,9 +36,10 @@ pub fn each_line_is_shown_where_the_lines_before_lead()
         → followed_text names p c (front ++ rest) ≡ followed_text names p c front ++ followed_text names p d rest }
 {}
 
-/// A reader who keeps the last block of each object and the last line of each pair has the configuration after each possible line.
-/// The text is that of its parts, and the first lines have the first parts. After the lines `front`, the last parts show the configuration
-/// to which the labels of these lines lead. The labels `before` come before the text. They are empty if it begins with the start.
+/// A reader who keeps the last block of each object and the last line of each pair has the configuration after each
+/// possible line. The text is that of its parts, and the first lines have the first parts. After the lines `front`, the
+/// last parts show the configuration to which the labels of these lines lead. The labels `before` come before the text.
+/// They are empty if it begins with the start.
 pub fn the_last_lines_show_the_configuration()
     ensures parts { (names : List Text) (p : ProgramTree) (c : Configuration) (ls : List Line) → written (watched_parts names p c ls) ≡ watched_text names p c ls }
     ensures fronts { (names : List Text) (p : ProgramTree) (c d : Configuration) (front rest : List Line) → run p c (labels front) ≡ Some d
@@ -53,7 +54,8 @@ pub fn program_text_is_its_canonical_tokens()
     ensures statements { (names : List Text) (ss : List Stmt) → statements_text names (statements_of ss) ≡ spelled names (statements_tokens (statements_of ss)) }
 {}
 
-/// In a typed configuration, the lines of an object's term are its body and one for each method under way, in the order of the relation.
+/// In a typed configuration, the lines of an object's term are its body and one for each method under way, in the order
+/// of the relation.
 pub fn each_method_under_way_has_a_line()
     ensures { (names : List Text) (p : ProgramTree) (c : Configuration) (o : ℕ) (x : Object) → Typed p c → object_of c o ≡ Some x
         → HasLineOfEach names o (in_statements x.term) (statements_lines names o x.term) }

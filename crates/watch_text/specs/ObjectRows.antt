@@ -15,7 +15,8 @@ abbrev pub served_standing : Bool → Standing
 served_standing true = Z.Ready
 served_standing false = Z.Awaits
 
--- the status of an object with this action that has met no error; the test says whether it can make a transition of its own
+-- the status of an object with this action that has met no error; the test says whether it can make a transition of its
+-- own
 abbrev pub standing_at : Bool → Action → Standing
 standing_at moves A.Finished = Z.Finished
 standing_at moves (A.Local term vars) = Z.Ready

@@ -46,7 +46,8 @@ AreRows p c [] [] = Unit {0}
 AreRows p c (e ∷ es) (r ∷ rs) = (r.name ≡ e.0) × (r.class.0 ≡ e.1.class) × Stands p c e.0 e.1 r.standing × AreRows p c es rs
 AreRows p c _ _ = ⊥
 
--- if each line is possible, a row for each object of the last configuration and a line for each cycle of calls; and the verdict
+-- if each line is possible, a row for each object of the last configuration and a line for each cycle of calls; and the
+-- verdict
 abbrev pub IsReport : ProgramTree → List Text → Option Configuration → Text → Verdict → Type 0
 IsReport p names None text v = text ≡ verdict_text names v
 IsReport p names (Some d) text v = (rows : List ObjectRow) × AreRows p d d.objects rows × (text ≡ report_text names rows ++ verdict_text names v)

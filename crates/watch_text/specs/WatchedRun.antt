@@ -1,4 +1,5 @@
--- The text that shows a record as a run of a program: the run or some lines of it, who waits at its end, and the verdict.
+-- The text that shows a record as a run of a program: the run or some lines of it, who waits at its end, and the
+-- verdict.
 use Rattle.std.specs.Prelude.{◌≡◌, ℕ, ◌-◌, List, [], ◌∷◌, ◌++◌, take, drop, Option, Some, None, false, codes}
 use Rattle.text_scan.specs.Text.{Text}
 use Rattle.run_types.specs.declared.types.Line.{Line}
@@ -23,7 +24,8 @@ abbrev pub ending : List Text → ProgramTree → Option Configuration → Verdi
 ending names p None v = verdict_text names v
 ending names p (Some d) v = waiting_text names p d ++ verdict_text names v
 
--- The verdict is that of `check`. The text shows the start, each line with what it changed, up to the first impossible line, and the end.
+-- The verdict is that of `check`. The text shows the start, each line with what it changed, up to the first impossible
+-- line, and the end.
 pub record IsWatched (p : ProgramTree) (names : List Text) (ls : List Line) (text : Text) (verdict : Verdict) : Type 0 where
   pub judged : Judged p ls verdict
   pub from : Configuration
@@ -38,13 +40,15 @@ lines_before first ls = take (first - 1) ls
 abbrev pub lines_between : ℕ → ℕ → List Line → List Line
 lines_between first last ls = drop (first - 1) (take last ls)
 
--- some lines: if the lines before them are possible, the configuration that those lead to, and each line with what it changed
+-- some lines: if the lines before them are possible, the configuration that those lead to, and each line with what it
+-- changed
 abbrev pub part_text : List Text → ProgramTree → Option Configuration → List Line → Text
 part_text names p None ls = line (codes "watch" ∷ [])
 part_text names p (Some c) ls = watched_text names p c ls
 
--- The verdict is that of `check` on the whole record. The text shows the configuration before line `first`, then each line from
--- there to line `last` with what it changed, up to the first impossible line, and the end of the whole record.
+-- The verdict is that of `check` on the whole record. The text shows the configuration before line `first`, then each
+-- line from there to line `last` with what it changed, up to the first impossible line, and the end of the whole
+-- record.
 pub record IsWatchedPart (p : ProgramTree) (names : List Text) (ls : List Line) (first last : ℕ) (text : Text) (verdict : Verdict) : Type 0 where
   pub judged : Judged p ls verdict
   pub from : Configuration

@@ -57,8 +57,8 @@ fn push_step(
     }
 }
 
-/// Appends each line with what it changed, up to the first impossible line. Returns that line, or None if all labels were
-/// applied. An error means out of memory.
+/// Appends each line with what it changed, up to the first impossible line. Returns that line, or None if all labels
+/// were applied. An error means out of memory.
 pub fn push_followed(
     text: &mut Vec<u8>,
     names: &Names,

@@ -1,5 +1,5 @@
-//! Follows the lines of a record on the stepper, and makes the text that shows the run configuration by configuration, or the report
-//! on its last configuration.
+//! Follows the lines of a record on the stepper, and makes the text that shows the run configuration by configuration,
+//! or the report on its last configuration.
 //!
 //! Does not know: files, words of commands, and who wrote the record.
 #![tactic(auto)]

@@ -17,8 +17,9 @@ use record_check::{Mismatch, follow, root};
 use run_types::{Line, Names, Verdict};
 use std::alloc::{AllocError, Global};
 
-/// Appends the first line, the configuration of the stepper, and the shown lines with what they changed. Then it applies the labels
-/// of the lines behind. Returns the first impossible line, or None if all labels were applied. An error means out of memory.
+/// Appends the first line, the configuration of the stepper, and the shown lines with what they changed. Then it
+/// applies the labels of the lines behind. Returns the first impossible line, or None if all labels were applied. An
+/// error means out of memory.
 fn push_from(
     text: &mut Vec<u8>,
     names: &Names,
@@ -40,8 +41,8 @@ fn push_from(
     }
 }
 
-/// Applies the labels of the lines before, and appends the text of the shown lines. Then it applies the labels of the lines behind.
-/// Returns the first impossible line, or None if all labels were applied. An error means out of memory.
+/// Applies the labels of the lines before, and appends the text of the shown lines. Then it applies the labels of the
+/// lines behind. Returns the first impossible line, or None if all labels were applied. An error means out of memory.
 fn push_part(
     text: &mut Vec<u8>,
     names: &Names,
@@ -79,8 +80,8 @@ fn cut(lines: &[Line], first: usize, last: usize) -> (&[Line], &[Line], &[Line])
     (before, between, behind)
 }
 
-/// Follows the lines from the start of the program. Appends the text of those from line `first` to line `last`, and the end.
-/// Returns the verdict on all lines.
+/// Follows the lines from the start of the program. Appends the text of those from line `first` to line `last`, and the
+/// end. Returns the verdict on all lines.
 fn push_judged_part(
     alloc: Global,
     text: &mut Vec<u8>,
@@ -106,10 +107,11 @@ fn push_judged_part(
     }
 }
 
-/// The text of a record from line `first` to line `last`, and the verdict on the whole record. Lines are counted from 1, and the end
-/// line is one of them. The text begins with the configuration before line `first`. At its end are those who wait after all lines.
-/// The lines before `first` and behind `last` are judged too, and are not shown. If one before `first` is impossible, the text has only
-/// its first line and the verdict. An error means out of memory.
+/// The text of a record from line `first` to line `last`, and the verdict on the whole record. Lines are counted from
+/// 1, and the end line is one of them. The text begins with the configuration before line `first`. At its end are those
+/// who wait after all lines. The lines before `first` and behind `last` are judged too, and are not shown. If one
+/// before `first` is impossible, the text has only its first line and the verdict.
+/// An error means out of memory, or that an object would have more than 1,000,000 methods under way.
 /// The time is proportional to the transitions that all lines show, and to the text.
 pub fn watch_lines(
     alloc: Global,

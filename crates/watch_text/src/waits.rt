@@ -26,8 +26,8 @@ use std::collections::{BTreeMap, BTreeSet};
 use stepper_objects::object_state::ObjectState;
 use wait_report::{ObjectRow, put_each_cycle, put_row};
 
-/// The status of an object. `moves` says whether it can make a transition of its own. This is tested only at an answer or select,
-/// since each other action decides it.
+/// The status of an object. `moves` says whether it can make a transition of its own. This is tested only at an answer
+/// or select, since each other action decides it.
 fn standing<'a>(program: &'a Program, name: u32, thing: &ObjectState<'a>, moves: bool) -> Standing
     ensures { result ≡ standing_of moves (thing_object thing.now).fault (action (program_of program.now) name (thing_object thing.now)) }
 {
@@ -175,11 +175,12 @@ fn report_from(
     }
 }
 
-/// The report on the configuration that a record leads to, and the verdict on the record. It has a line for each object with its
-/// status, by rising names, a line for each cycle of calls, and the line of the verdict. If a line of the record is impossible, it has
-/// only the line of the verdict. An error means out of memory.
-/// The time is proportional to the transitions that the lines show and to the messages not yet taken, and beyond that it is the time
-/// to sort the objects.
+/// The report on the configuration that a record leads to, and the verdict on the record. It has a line for each object
+/// with its status, by rising names, a line for each cycle of calls, and the line of the verdict. If a line of the
+/// record is impossible, it has only the line of the verdict.
+/// An error means out of memory, or that an object would have more than 1,000,000 methods under way.
+/// The time is proportional to the transitions that the lines show and to the messages not yet taken, and beyond that
+/// it is the time to sort the objects.
 pub fn report_waits(
     alloc: Global,
     program: &Checked<'_>,

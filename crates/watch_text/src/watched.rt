@@ -31,7 +31,7 @@ pub struct Watched {
     pub verdict: Verdict,
 }
 
-/// Appends the first line, and the configuration of the stepper.
+/// Appends the first line, and the configuration of the stepper. An error means out of memory.
 pub fn push_start(text: &mut Vec<u8>, names: &Names, plain: &Plain<'_>) -> Result<(), AllocError>
     ensures { OnOk result (text.new.items ≡ text.old.items ++ (line (codes "watch" ∷ []) ++ configuration_text names.now (program_tree plain.now) (configuration_of plain.now))) }
 {
@@ -53,7 +53,8 @@ fn push_rows(
     put_each_cycle(alloc, text, rows)
 }
 
-/// Appends the lines of the objects that wait in the configuration of the stepper, and of the cycles of calls among them.
+/// Appends the lines of the objects that wait in the configuration of the stepper, and of the cycles of calls among
+/// them.
 fn push_waits(
     alloc: Global,
     text: &mut Vec<u8>,
@@ -66,7 +67,7 @@ fn push_waits(
     push_rows(alloc, text, names, &rows)
 }
 
-/// Appends the line of a verdict.
+/// Appends the line of a verdict. An error means out of memory.
 pub fn push_verdict(
     alloc: Global,
     text: &mut Vec<u8>,
@@ -79,7 +80,8 @@ pub fn push_verdict(
     text.extend_from_slice(&line)
 }
 
-/// Appends the end of the text after the last line, and returns the verdict. All labels were applied.
+/// Appends the end of the text after the last line, and returns the verdict. All labels were applied. An error means
+/// out of memory.
 pub fn push_end(
     alloc: Global,
     text: &mut Vec<u8>,
@@ -97,7 +99,7 @@ pub fn push_end(
     Ok(verdict)
 }
 
-/// Appends the end of the text after an impossible line, and returns the verdict.
+/// Appends the end of the text after an impossible line, and returns the verdict. An error means out of memory.
 pub fn push_stop(
     alloc: Global,
     text: &mut Vec<u8>,
@@ -115,7 +117,8 @@ pub fn push_stop(
     Ok(verdict)
 }
 
-/// Follows the lines from the start of the program, appends what they show and the end of the text, and returns the verdict.
+/// Follows the lines from the start of the program, appends what they show and the end of the text, and returns the
+/// verdict.
 fn push_judged(
     alloc: Global,
     text: &mut Vec<u8>,
@@ -137,7 +140,8 @@ fn push_judged(
 }
 
 /// The text of a record that is followed from the start of the program, and the verdict on it.
-/// An error means out of memory. The time is proportional to the transitions that the lines show, and to the text.
+/// An error means out of memory, or that an object would have more than 1,000,000 methods under way.
+/// The time is proportional to the transitions that the lines show, and to the text.
 pub fn watch_record(
     alloc: Global,
     program: &Checked<'_>,
