@@ -25,8 +25,8 @@ fn erase<W: Write>(terminal: &mut W, is_shown: &Cell<bool>) {
     }
 }
 
-/// Writes the counts of a search on a terminal, at most once a second, each time over the line before. It writes nothing
-/// in the first second of a search, and nothing at all if the writer is no terminal.
+/// Writes the counts of a search on a terminal, at most once a second, each time over the line before. It writes
+/// nothing in the first second of a search, and nothing at all if the writer is no terminal.
 #[derive(Drop)]
 pub struct ProgressLine<'a, C: Clock + Drop, W: IsTerminal + Write + Drop> {
     alloc: Global,

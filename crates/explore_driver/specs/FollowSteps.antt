@@ -32,7 +32,8 @@ end_by None = None
 end_by (Some (Why.Judged v)) = Some (E.Judged v)
 end_by (Some (Why.Faulty f)) = Some (E.Stopped (T.Refused I.Record (F.Record f)))
 
--- what comes of a piece that the judge has read after the bytes s: nothing yet, and the judge goes on; or an end of the stream
+-- what comes of a piece that the judge has read after the bytes s: nothing yet, and the judge goes on; or an end of the
+-- stream
 abbrev pub PieceEnds : ProgramTree → List Text → Text → Text → Writing → Judge → Option Followed → Type 0
 PieceEnds p names s piece w judge None = (more : Text) × IsFollowed p names (s ++ piece) (so_far names s ++ more) None × Wrote w more × HasRead p names (s ++ piece) judge
 PieceEnds p names s piece w judge (Some (E.Judged v)) = (more : Text) × IsFollowed p names (s ++ piece) (so_far names s ++ more) (Some (Why.Judged v)) × Wrote w more

@@ -40,7 +40,8 @@ pub record HasCome (k : Reading) (stream_name s : Text) : Type 0 where
   pub front : IsFrontOf k stream_name s
   pub given : k.given ≡ min (length s) most_given
 
--- The program was read and is one without class faults, and the stream was opened after it. The text is what the judge writes after these bytes of the stream.
+-- The program was read and is one without class faults, and the stream was opened after it. The text is what the judge
+-- writes after these bytes of the stream.
 pub record HasJudged (name : Text) (k : Reading) (s text : Text) (stop : Option Stop) : Type 0 where
   pub source : Text
   pub read : IsReadAs k.told I.Program name source
@@ -57,17 +58,17 @@ pub record HasEnded (k : Reading) (stream_name s : Text) : Type 0 where
   pub whole : IfSome (k.told stream_name) (λ t. t ≡ s)
   pub calm : AllRead k
 
--- A line for the error sink, after these bytes and this text: a line has a fault; the stream ended before its end line; it
--- gave more bytes than are counted; or the open or a read failed.
+-- A line for the error sink, after these bytes and this text: a line has a fault; the stream ended before its end line;
+-- it gave more bytes than are counted; or the open or a read failed.
 pub data Tells (name stream_name : Text) (k : Reading) (s text line : Text) (status : Status) : Type 0 where
   faulty : (f : RecordFault) → HasJudged name k s text (Some (Why.Faulty f)) → HasCome k stream_name s → AllRead k → line ≡ refusal_line I.Record (F.Record f) → status ≡ S.Refused → Tells name stream_name k s text line status
   ended : (j : HasJudged name k s text None) → HasCome k stream_name s → HasEnded k stream_name s → line ≡ refusal_line I.Record (F.Record (cut_off (stream_lines j.names s))) → status ≡ S.Refused → Tells name stream_name k s text line status
   too_long : HasJudged name k s text None → HasCome k stream_name s → k.given ≡ most_given → AllRead k → line ≡ refusal_line I.Record F.TooLong → status ≡ S.Refused → Tells name stream_name k s text line status
   unread : HasJudged name k s text None → HasCome k stream_name s → Rose k.faults k.failed → line ≡ unread_line I.Record → status ≡ S.ReadFault → Tells name stream_name k s text line status
 
--- How the call ends. The text on `out` is what the judge writes after the bytes that were read, and the status is that of the
--- verdict. Or a line on `err` says why there is none. Or a write failed, and `out` or `err` has a proper prefix of its text.
--- Or memory ran out, and `out` has what the judge writes after some first bytes.
+-- How the call ends. The text on `out` is what the judge writes after the bytes that were read, and the status is that
+-- of the verdict. Or a line on `err` says why there is none. Or a write failed, and `out` or `err` has a proper prefix
+-- of its text. Or memory ran out, and `out` has what the judge writes after some first bytes.
 pub data EndsFollowing (name stream_name : Text) (k : Reading) (out err : Writing) (status : Status) : Type 0 where
   judged : (s text : Text) (v : Verdict) → HasJudged name k s text (Some (Why.Judged v)) → HasCome k stream_name s → AllRead k → Wrote out text → IsIdle err → status ≡ status_of_verdict v → EndsFollowing name stream_name k out err status
   told : (s text line : Text) → Tells name stream_name k s text line status → Wrote out text → Wrote err line → EndsFollowing name stream_name k out err status

@@ -64,8 +64,8 @@ pub record IsWatchOn (shown : Shown) (source s text : Text) (status : Status) : 
 abbrev pub IsFilledText : ProgramTree → List Text → List Line → Text → Verdict → Type 0
 IsFilledText p names ls text verdict = (fs : List Line) × IsFilled p ls fs verdict × (text ≡ record_text names fs)
 
--- The source is a program without class faults, and the record has no fault. The text has its lines, read with the program's
--- names, with local transitions filled in, in the first form. The verdict is that on the filled record.
+-- The source is a program without class faults, and the record has no fault. The text has its lines, read with the
+-- program's names, with local transitions filled in, in the first form. The verdict is that on the filled record.
 pub record IsFillOn (source s text : Text) (status : Status) : Type 0 where
   pub names : List Text
   pub program : ProgramTree

@@ -1,5 +1,5 @@
-//! Follows a stream as a run of a program: reads it piece by piece, and writes what comes of each piece before it reads the
-//! next.
+//! Follows a stream as a run of a program: reads it piece by piece, and writes what comes of each piece before it reads
+//! the next.
 ghost use Rattle.std.specs.Prelude.{◌≡◌, ◌⊎◌, ◌<◌, ◌≤◌, ◌+◌, ◌-◌, ◌^◌, IfOk, IsTrue, [], Some, true, length, take};
 ghost use Rattle.text_scan.specs.Text.{Text};
 ghost use Rattle.pool_syntax.specs.TreeOf.{program_of};
@@ -53,8 +53,8 @@ fn end_by(stop: Option<Stop>) -> Option<Followed>
     }
 }
 
-/// Judges the first `taken` bytes of `room`, which are the next ones of the stream, and writes what comes of them. None if
-/// the stream goes on.
+/// Judges the first `taken` bytes of `room`, which are the next ones of the stream, and writes what comes of them. None
+/// if the stream goes on.
 fn follow_piece<'a, K: Sink>(
     alloc: Global,
     program: &Checked<'a>,
@@ -88,8 +88,8 @@ fn zeros(alloc: Global) -> Result<Vec<u8>, AllocError>
     vec![in alloc; 0u8; PIECE]
 }
 
-/// Reads the open stream up to its end line, its first fault or its end, and writes what comes of it. No more than 2^64 - 1
-/// reads are made.
+/// Reads the open stream up to its end line, its first fault or its end, and writes what comes of it. It makes at most
+/// 2^64 - 1 reads.
 fn follow_open<'a, F: Files, K: Sink>(
     alloc: Global,
     files: &mut F,
@@ -156,7 +156,8 @@ fn follow_stream<'a, F: Files, K: Sink>(
     }
 }
 
-/// Reads a program, and follows a stream as a run of it. Requires that both may be opened.
+/// Reads a program, and follows a stream as a run of it. Requires that both may be opened. Returns the status of the
+/// verdict, that of the first input error, or `WriteFault` if a write fails, or `Memory`.
 pub fn follow<F: Files, K: Sink, E: Sink>(
     alloc: Global,
     files: &mut F,

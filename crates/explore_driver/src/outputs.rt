@@ -160,8 +160,8 @@ fn filled(alloc: Global, program: &Checked<'_>, read: &NamedLines) -> Result<Wat
     })
 }
 
-/// Reads a program, and then the record `claim`. Returns the record with local transitions filled in as the output, or the
-/// input error.
+/// Reads a program, and then the record `claim`. Returns the record with local transitions filled in as the output, or
+/// the input error.
 fn fill_output<F: Files>(
     alloc: Global,
     files: &mut F,

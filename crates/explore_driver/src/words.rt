@@ -128,8 +128,8 @@ fn outcomes_for<'a>(name: &'a str, word: &str) -> Option<Asked<'a>>
     }
 }
 
-/// The search for a run with one of the outcomes, given by its place. None if the name begins with `-`, the place is not
-/// a number from 1 to 10,000,000, or the last argument is not a bound.
+/// The search for a run with one of the outcomes, given by its place. None if the name begins with `-`, the place is
+/// not a number from 1 to 10,000,000, or the last argument is not a bound.
 fn run_for<'a>(place: &str, name: &'a str, word: &str) -> Option<Asked<'a>>
     ensures request { option_map request result ≡ run_for place.now name.entry.now word.now }
     ensures sized { IfSome result (λ asked. IsSized asked) }
@@ -167,7 +167,8 @@ fn search_of_three<'a>(first: &str, name: &'a str, word: &str) -> Option<Asked<'
     }
 }
 
-/// The search of four arguments: `run` and the place of an outcome, or a kind of run and `all`, and then a name and a bound.
+/// The search of four arguments: `run` and the place of an outcome, or a kind of run and `all`, and then a name and a
+/// bound.
 fn search_of_four<'a>(first: &str, second: &str, name: &'a str, word: &str) -> Option<Asked<'a>>
     ensures request { option_map request result ≡ search_of (first.now ∷ second.now ∷ name.entry.now ∷ word.now ∷ []) }
     ensures sized { IfSome result (λ asked. IsSized asked) }
@@ -202,8 +203,8 @@ fn search_of<'a>(words: &'a [String]) -> Option<Asked<'a>>
     }
 }
 
-/// The grading of the arguments after the first: a name, a bound, and the outputs that are allowed. None if they are not
-/// one.
+/// The grading of the arguments after the first: a name, a bound, and the outputs that are allowed. None if they are
+/// not one.
 fn grade_of<'a>(words: &'a [String]) -> Option<Asked<'a>>
     ensures request { option_map request result ≡ grade_of (texts_of words.now) }
     ensures sized { IfSome result (λ asked. IsSized asked) }
@@ -269,7 +270,8 @@ fn watch_of_two<'a>(shown: Shown, program: &'a str, record: &'a str) -> Option<A
     })
 }
 
-/// Some lines of the record of two names. None if a name begins with `-`, or the other arguments are not numbers of lines.
+/// Some lines of the record of two names. None if a name begins with `-`, or the other arguments are not numbers of
+/// lines.
 fn watch_of_four<'a>(
     program: &'a str,
     record: &'a str,
@@ -347,8 +349,8 @@ fn follow_of_two<'a>(program: &'a str, stream: &'a str) -> Option<Command<'a>>
     Some(Command::Follow { program, stream })
 }
 
-/// The stream to be followed of the arguments after the first: without a second name it is the standard input. None if they
-/// are not one.
+/// The stream to be followed of the arguments after the first: without a second name it is the standard input. None if
+/// they are not one.
 fn follow_of<'a>(words: &'a [String]) -> Option<Command<'a>>
     ensures request { option_map wanted result ≡ follow_of (texts_of words.now) }
     ensures sized { IfSome result (λ command. IsSizedCommand command) }

@@ -13,8 +13,8 @@ pub enum Solo {
     Fault(Error),
 }
 
-/// A transition of a receiver and a caller. If `returned` is a value, it is the return of this value. Else it is the answer
-/// to a call of this method with these arguments.
+/// A transition of a receiver and a caller. If `returned` is a value, it is the return of this value. Else it is the
+/// answer to a call of this method with these arguments.
 #[derive(Clone, Copy)]
 pub struct Duo {
     pub returned: Option<Value>,

@@ -39,8 +39,9 @@ fn is_mail(mail: &Mail, act: &Parcel) -> bool
     mail.method.0 == act.method.0 && same_values(mail.args.values(), act.args.values())
 }
 
-/// Takes this message to the receiver, if it is the first one of its sender. `Impossible` if no object can take it, since
-/// it is not the first one of its sender for its method. `Unknown` if others are before it. The messages are then the same.
+/// Takes this message to the receiver, if it is the first one of its sender. `Impossible` if no object can take it,
+/// since it is not the first one of its sender for its method. `Unknown` if others are before it. The messages are then
+/// the same.
 fn take_first(
     messages: &mut BTreeMap<(u32, u32), MessageQueue>,
     receiver: u32,

@@ -31,7 +31,7 @@ fn is_followed(silent: bool, act: Solo) -> bool
     }
 }
 
-/// Adds the objects that a transition with this label changes.
+/// Adds the objects that a transition with this label changes. An error means out of memory.
 pub fn push_movers(moved: &mut Vec<u32>, label: &Label) -> Result<(), AllocError>
     ensures { OnOk result (HasMoved (label.now ∷ []) moved.old.items moved.new.items) }
 {
@@ -96,8 +96,9 @@ impl<'a> MoveTable<'a> {
         }
     }
 
-    /// Makes the answer or the return in this row. `Unknown` if the row has no such objects, if they are one object, if a
-    /// message from the caller to the receiver waits, or if the table of states is full. An error means out of memory.
+    /// Makes the answer or the return in this row. `Unknown` if the row has no such objects, if they are one object, if
+    /// a message from the caller to the receiver waits, or if the table of states is full. An error means out of
+    /// memory.
     fn make_two(
         &mut self,
         numbers: &mut Vec<u32>,
@@ -143,10 +144,10 @@ impl<'a> MoveTable<'a> {
         }
     }
 
-    /// Makes the transition in which the object sends or takes this message in this row. `Impossible` also if it takes one
-    /// that is not the first one of its sender for its method. `Unknown` if it takes the first one for its method, and
-    /// others are before it, if the row has no such objects, or if the table of states is full; the messages are then
-    /// unspecified. An error means out of memory.
+    /// Makes the transition in which the object sends or takes this message in this row. `Impossible` also if it takes
+    /// one that is not the first one of its sender for its method. `Unknown` if it takes the first one for its method,
+    /// and others are before it, if the row has no such objects, or if the table of states is full; the messages are
+    /// then unspecified. An error means out of memory.
     fn make_mail(
         &mut self,
         numbers: &mut Vec<u32>,
@@ -182,8 +183,9 @@ impl<'a> MoveTable<'a> {
         }
     }
 
-    /// Makes the transition in which the object makes another one, under the next name of this row. `Unknown` if this is
-    /// not the next name, if the row has no such object, or if the table of states is full. An error means out of memory.
+    /// Makes the transition in which the object makes another one, under the next name of this row. `Unknown` if this
+    /// is not the next name, if the row has no such object, or if the table of states is full. An error means out of
+    /// memory.
     fn make_new(
         &mut self,
         numbers: &mut Vec<u32>,
@@ -222,10 +224,10 @@ impl<'a> MoveTable<'a> {
         }
     }
 
-    /// Makes the transition with this label in this row. `Unknown` if it is local; if it makes an object not under the next
-    /// name; if it takes the first message of its sender for a method, and others are before it; if it is an answer or a
-    /// return where a message from the caller waits; if the row has no such objects, or if the table of states is full.
-    /// An error means out of memory.
+    /// Makes the transition with this label in this row. `Unknown` if it is local; if it makes an object not under the
+    /// next name; if it takes the first message of its sender for a method, and others are before it; if it is an
+    /// answer or a return where a message from the caller waits; if the row has no such objects, or if the table of
+    /// states is full. An error means out of memory.
     fn make_in(
         &mut self,
         numbers: &mut Vec<u32>,
@@ -292,7 +294,7 @@ impl<'a> MoveTable<'a> {
     }
 
     /// Makes the local transitions of the object in this row, and tells what it makes next. None if the row has no such
-    /// object, if its local transitions are more than 1,000,000, or if the table of states is full. An error means out
+    /// object, if its local transitions are 1,000,000 or more, or if the table of states is full. An error means out
     /// of memory.
     fn rest_in(&mut self, numbers: &mut Vec<u32>, object: u32) -> Result<Option<Next>, AllocError>
         requires within { AreWithin (states self.old.table) numbers.old.items }
@@ -314,8 +316,8 @@ impl<'a> MoveTable<'a> {
         }
     }
 
-    /// Sends the message with this number, and adds the object to `moved`. `false` if it cannot tell. An error means out of
-    /// memory.
+    /// Sends the message with this number, and adds the object to `moved`. `false` if it cannot tell. An error means
+    /// out of memory.
     fn settle_send(
         &mut self,
         numbers: &mut Vec<u32>,
@@ -426,8 +428,8 @@ impl<'a> MoveTable<'a> {
         Ok(false)
     }
 
-    /// Follows the transitions of the object that this label makes, if it makes one. `false` if it cannot tell. An error
-    /// means out of memory.
+    /// Follows the transitions of the object that this label makes, if it makes one. `false` if it cannot tell. An
+    /// error means out of memory.
     fn settle_new(
         &mut self,
         numbers: &mut Vec<u32>,
@@ -451,10 +453,11 @@ impl<'a> MoveTable<'a> {
     }
 
     /// Makes the transition with this label in this row, and follows those that need no choice, without writes if
-    /// `silent`. `moved` becomes a list of objects that these transitions change. `Unknown` if it cannot tell, since the
-    /// label is local or makes an object not under the next name, since it takes the first message of its sender for a
-    /// method, and others are before it, since an answer or a return has a caller whose message waits, or since a bound is
-    /// met; the row and the messages are then unspecified. An error means out of memory.
+    /// `silent`. `moved` becomes a list of objects that these transitions change. `Unknown` if it cannot tell. Then the
+    /// row and the messages are unspecified. It cannot tell in these cases: the label is local; it makes an object not
+    /// under the next name; it takes the first message of its sender for a method, and others are before it; an answer
+    /// or a return has a caller whose message waits; 1,000,000 transitions or more follow; or the table of
+    /// states is full. An error means out of memory.
     pub fn lead(
         &mut self,
         numbers: &mut Vec<u32>,

@@ -12,8 +12,8 @@ use run_types::Label;
 use std::alloc::AllocError;
 
 impl<'a> MoveTable<'a> {
-    /// The number of this object's state in this configuration. None if there is no such object, or if the table of states
-    /// is full. An error means out of memory.
+    /// The number of this object's state in this configuration. None if there is no such object, or if the table of
+    /// states is full. An error means out of memory.
     fn number_in(&mut self, small: &State<'a>, object: u32) -> Result<Option<u32>, AllocError>
         ensures grows { take (length (states self.old.table)) (states self.new.table) ≡ states self.old.table }
         ensures program { self.new.program ≡ self.old.program }
@@ -25,8 +25,8 @@ impl<'a> MoveTable<'a> {
         }
     }
 
-    /// Makes the transition with this label in this configuration, and tells what this object then is. None if it is gone,
-    /// or if the table of states is full. An error means out of memory.
+    /// Makes the transition with this label in this configuration, and tells what this object then is. None if it is
+    /// gone, or if the table of states is full. An error means out of memory.
     pub(crate) fn step_one(
         &mut self,
         small: &mut State<'a>,
@@ -49,8 +49,8 @@ impl<'a> MoveTable<'a> {
         }
     }
 
-    /// Makes the transition with this label in this configuration, and tells what these two objects then are. None if one
-    /// is gone, or if the table of states is full. An error means out of memory.
+    /// Makes the transition with this label in this configuration, and tells what these two objects then are. None if
+    /// one is gone, or if the table of states is full. An error means out of memory.
     pub(crate) fn step_two(
         &mut self,
         small: &mut State<'a>,

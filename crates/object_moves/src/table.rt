@@ -28,7 +28,7 @@ use std::collections::HashMap;
 use stepper_objects::object_state::ObjectState;
 
 /// A table of object states of one program, and what some transitions make of them. It finds a transition by its hash,
-/// the latest of those with the same hash.
+/// the latest of those with the same hash. No proof depends on the hashes.
 #[derive(Drop)]
 pub struct MoveTable<'a> {
     alloc: Global,
@@ -122,7 +122,9 @@ impl<'a> MoveTable<'a> {
     }
 
     /// The message with this number, that an object sends after its local transitions. None if there is none.
-    pub fn sent_next(&self, at: u32) -> Option<Parcel> {
+    pub(crate) fn sent_next(&self, at: u32) -> Option<Parcel>
+        ensures { result ≡ slice_get self.now.sent.items at }
+    {
         self.sent.as_slice().get(at as usize).copied()
     }
 
@@ -305,8 +307,8 @@ impl<'a> MoveTable<'a> {
         }
     }
 
-    /// What a transition that makes an object makes of its maker, and the new object. None if the table of states is full.
-    /// An error means out of memory.
+    /// What a transition that makes an object makes of its maker, and the new object. None if the table of states is
+    /// full. An error means out of memory.
     fn compute_new(&mut self, birth: Birth) -> Result<Option<Two>, AllocError>
         requires state { birth.state < length (states self.old.table) }
         requires apart { birth.object ≢ birth.name }
@@ -337,8 +339,8 @@ impl<'a> MoveTable<'a> {
         Ok(())
     }
 
-    /// What a transition that makes an object makes of its maker, and the new object. None if the table of states is full.
-    /// An error means out of memory.
+    /// What a transition that makes an object makes of its maker, and the new object. None if the table of states is
+    /// full. An error means out of memory.
     pub fn new(&mut self, birth: Birth) -> Result<Option<Two>, AllocError>
         requires state { birth.state < length (states self.old.table) }
         requires apart { birth.object ≢ birth.name }
@@ -462,8 +464,8 @@ impl<'a> MoveTable<'a> {
         Ok(Next::Sends(at))
     }
 
-    /// Makes the local transitions of the object in this configuration, where it has this state. None if they are too many,
-    /// or if the table of states is full. An error means out of memory.
+    /// Makes the local transitions of the object in this configuration, where it has this state. None if they are too
+    /// many, or if the table of states is full. An error means out of memory.
     fn rest_after(
         &mut self,
         small: &mut State<'a>,
@@ -526,8 +528,8 @@ impl<'a> MoveTable<'a> {
         Ok(())
     }
 
-    /// The state of the object in this state after its local transitions, and what it makes next. None if they are more
-    /// than 1,000,000, or if the table of states is full. An error means out of memory.
+    /// The state of the object in this state after its local transitions, and what it makes next. None if they are
+    /// 1,000,000 or more, or if the table of states is full. An error means out of memory.
     pub fn rest(&mut self, object: u32, state: u32) -> Result<Option<KnownRest>, AllocError>
         requires { state < length (states self.old.table) }
         ensures grows { take (length (states self.old.table)) (states self.new.table) ≡ states self.old.table }

@@ -1,5 +1,6 @@
 //! The labels of an entry that are tried: all, or those of one object where they are enough.
 ghost use Rattle.std.specs.Prelude.{◌≡◌, ◌<◌, ◌⊎◌, ℕ, suc, slice_get, true, not};
+ghost use Rattle.std.specs.List.{list_any};
 ghost use Rattle.search_laws.specs.Stubborn.{is_served};
 ghost use Rattle.pool_search.specs.Trials.{is_asked, is_tried};
 
@@ -48,13 +49,10 @@ pub fn is_asked(served: Option<u32>, label: &Label) -> bool
 }
 
 /// Whether the object serves one of the labels.
-pub fn serves_some(object: u32, labels: &[Label]) -> bool {
-    for label in labels {
-        if is_served(object, label) {
-            return true;
-        }
-    }
-    false
+pub fn serves_some(object: u32, labels: &[Label]) -> bool
+    ensures { result ≡ list_any (is_served object) labels.now }
+{
+    labels.iter().any(|label| is_served(object, label))
 }
 
 /// Whether both labels take an equal message of one sender.

@@ -41,9 +41,9 @@ fn is_left(suspect: &Suspect<'_>, made: &LabelList, to: u32) -> bool
 }
 
 impl<'a> Explored<'a> {
-    /// Whether a label of entry `at` is impossible, or leads to an entry in which the object waits and is not known to go
-    /// on, without a change of the object. `Over` if neither is known. `made` becomes the labels of the way there. An error
-    /// means out of memory.
+    /// Whether a label of entry `at` is impossible, or leads to an entry in which the object waits and is not known to
+    /// go on, without a change of the object. `Over` if neither is known. `made` becomes the labels of the way there.
+    /// An error means out of memory.
     fn is_beside(
         &mut self,
         suspect: &Suspect<'_>,
@@ -71,8 +71,8 @@ impl<'a> Explored<'a> {
         }
     }
 
-    /// The same of one more label, if it is asked for. `trial` is the result of those before it, and the new result counts
-    /// it too.
+    /// The same of one more label, if it is asked for. `trial` is the result of those before it, and the new result
+    /// counts it too.
     fn stays_beside(
         &mut self,
         suspect: &Suspect<'_>,
@@ -101,8 +101,8 @@ impl<'a> Explored<'a> {
         }
     }
 
-    /// The same of all these labels, or of those that the object `served` serves. `Led` if one of them leads so to a later
-    /// entry.
+    /// The same of all these labels, or of those that the object `served` serves. `Led` if one of them leads so to a
+    /// later entry.
     fn are_beside(
         &mut self,
         suspect: &Suspect<'_>,
@@ -132,8 +132,8 @@ impl<'a> Explored<'a> {
         Ok(trial)
     }
 
-    /// Whether the same holds of all labels that this object serves in entry `at`, they are enough and one of them leads to
-    /// a later entry. `labels` are all to try.
+    /// Whether the same holds of all labels that this object serves in entry `at`, they are enough and one of them
+    /// leads to a later entry. `labels` are all to try.
     fn stays_by(
         &mut self,
         suspect: &Suspect<'_>,
@@ -184,8 +184,8 @@ impl<'a> Explored<'a> {
         Ok(false)
     }
 
-    /// Whether the same holds of all labels of entry `at`, or of those that some awaited object serves. `labels` are all to
-    /// try.
+    /// Whether the same holds of all labels of entry `at`, or of those that some awaited object serves. `labels` are
+    /// all to try.
     fn stays_where(
         &mut self,
         suspect: &Suspect<'_>,
@@ -259,8 +259,8 @@ impl<'a> Explored<'a> {
         Ok(true)
     }
 
-    /// Whether the object, which waits in entry `at`, is dead there. `false` also if this is not known. An error means out
-    /// of memory.
+    /// Whether the object, which waits in entry `at`, is dead there. `false` also if this is not known. An error means
+    /// out of memory.
     fn is_dead(&mut self, waiters: &Waiters, at: u32, object: u32) -> Result<bool, AllocError>
         requires { AllInOrder (entries self.old) }
         ensures same { entries self.new ≡ entries self.old }
@@ -274,7 +274,8 @@ impl<'a> Explored<'a> {
         self.stays(&Suspect { waiters, object })
     }
 
-    /// The dead objects of entry `at`, where the stepper is. Not all, if some are not known. An error means out of memory.
+    /// The dead objects of entry `at`, where the stepper is. Not all, if some are not known. An error means out of
+    /// memory.
     pub fn dead_at(
         &mut self,
         waiters: &Waiters,
@@ -303,8 +304,8 @@ impl<'a> Explored<'a> {
         Ok(names)
     }
 
-    /// The dead objects of the entry with the configuration where the stepper is, this next name, and what was written before
-    /// entry `at`. None if there is no such entry, or none is known to be dead. An error means out of memory.
+    /// The dead objects of the entry with the configuration where the stepper is, this next name, and what was written
+    /// before entry `at`. None if there is no such entry, or none is known to be dead. An error means out of memory.
     pub fn dead_where(
         &mut self,
         waiters: &Waiters,

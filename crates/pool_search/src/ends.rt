@@ -16,7 +16,8 @@ use std::hash::{FoldHasher, Hasher};
 use visited_set::{item_of, mark_item, same_item};
 
 /// The outcomes that were found, each with the number of an entry where a run with this outcome ends. `latest` has the
-/// index of the last one of each hash. An outcome can be in the list twice after a collision of hashes.
+/// index of the last one of each hash; no proof depends on it. An outcome can be in the list twice after a collision of
+/// hashes.
 #[derive(Drop)]
 pub struct Ends {
     pub list: Vec<Outcome>,

@@ -101,8 +101,9 @@ impl<'a> Explored<'a> {
         self.kept.len().min(most as usize) as u32
     }
 
-    /// Adds a configuration with the number of what was written, unless the set has it. Returns the number of its entry.
-    /// None if a bound is met: the set is full, or it would have more than `most` entries. An error means out of memory.
+    /// Adds a configuration with the number of what was written, unless the set has it. Returns the number of its
+    /// entry. None if a bound is met: the set is full, or it would have more than `most` entries. An error means out of
+    /// memory.
     fn keep(
         &mut self,
         plain: &Plain<'a>,
@@ -132,8 +133,8 @@ impl<'a> Explored<'a> {
         }
     }
 
-    /// The number of the entry with the configuration where the stepper is, this next name, and what was written before entry
-    /// `at`. None if it is not found. An error means out of memory.
+    /// The number of the entry with the configuration where the stepper is, this next name, and what was written before
+    /// entry `at`. None if it is not found. An error means out of memory.
     pub fn find(&mut self, plain: &Plain<'a>, at: u32, next: u32) -> Result<Option<u32>, AllocError>
         requires fresh { is_spent plain.now ≡ false }
         requires program { program_tree plain.now ≡ searched self.old }
@@ -193,8 +194,8 @@ impl<'a> Explored<'a> {
         }
     }
 
-    /// Tries a label of the entry `origin.from` by the table of moves. None if that does not tell where the label leads. An
-    /// error means out of memory.
+    /// Tries a label of the entry `origin.from` by the table of moves. None if that does not tell where the label
+    /// leads. An error means out of memory.
     fn follow_known(
         &mut self,
         label: &Label,
@@ -315,8 +316,8 @@ impl<'a> Explored<'a> {
         }
     }
 
-    /// Tries one more label of the entry `origin.from`, if it is asked for. `trial` is the result of those before it, and
-    /// the new result counts it too. An error means out of memory.
+    /// Tries one more label of the entry `origin.from`, if it is asked for. `trial` is the result of those before it,
+    /// and the new result counts it too. An error means out of memory.
     fn try_label(
         &mut self,
         label: &Label,
@@ -345,8 +346,8 @@ impl<'a> Explored<'a> {
         }
     }
 
-    /// Tries these labels of entry `at`, or only those that the object `served` serves. Of takes of equal messages that stand
-    /// side by side it tries one. `Led` if one of them leads to a later entry. An error means out of memory.
+    /// Tries these labels of entry `at`, or only those that the object `served` serves. Of takes of equal messages that
+    /// stand side by side it tries one. `Led` if one of them leads to a later entry. An error means out of memory.
     fn try_labels(
         &mut self,
         at: u32,
@@ -383,8 +384,8 @@ impl<'a> Explored<'a> {
         Ok(trial)
     }
 
-    /// Whether the labels of entry `at` that the object serves are enough: there is one, and only objects that wait for the
-    /// object know its name. `labels` are all to try.
+    /// Whether the labels of entry `at` that the object serves are enough: there is one, and only objects that wait for
+    /// the object know its name. `labels` are all to try.
     pub fn are_enough(&self, at: u32, labels: &[Label], object: u32) -> bool
         requires { at < length (entries self.now) }
         ensures { result ≡ true → IfSome (slice_get (entries self.now) at) (λ e. IsInOrder e.configuration
@@ -394,8 +395,8 @@ impl<'a> Explored<'a> {
         serves_some(object, labels) && self.kept.is_only_awaited(at as usize, object)
     }
 
-    /// Tries the labels of entry `at` that the object serves, if they are enough. `labels` are all to try. `Led` if they
-    /// were tried, and one of them leads to a later entry. An error means out of memory.
+    /// Tries the labels of entry `at` that the object serves, if they are enough. `labels` are all to try. `Led` if
+    /// they were tried, and one of them leads to a later entry. An error means out of memory.
     fn try_object(
         &mut self,
         at: u32,
@@ -418,9 +419,8 @@ impl<'a> Explored<'a> {
         self.try_labels(at, labels, Some(object), scope)
     }
 
-    /// Looks for an object whose labels are enough, and tries them. It passes over the objects of which `known` has the bit.
-    /// `labels` are all to try. `Led` if there is one. An error
-    /// means out of memory.
+    /// Looks for an object whose labels are enough, and tries them. It passes over the objects of which `known` has the
+    /// bit. `labels` are all to try. `Led` if there is one. An error means out of memory.
     fn try_awaited(
         &mut self,
         at: u32,
@@ -451,8 +451,8 @@ impl<'a> Explored<'a> {
         Ok(Trial::Tried)
     }
 
-    /// Tries these labels of entry `at`, or those of one object where that is enough. They are all to try. `Led` if one of
-    /// them leads to a later entry. An error means out of memory.
+    /// Tries these labels of entry `at`, or those of one object where that is enough. They are all to try. `Led` if one
+    /// of them leads to a later entry. An error means out of memory.
     fn try_enough(
         &mut self,
         at: u32,
@@ -478,8 +478,8 @@ impl<'a> Explored<'a> {
         }
     }
 
-    /// Tries the labels of entry `at`: all, or those of one object where that is enough. `Led` if one of them leads to a
-    /// later entry. An error means out of memory.
+    /// Tries the labels of entry `at`: all, or those of one object where that is enough. `Led` if one of them leads to
+    /// a later entry. An error means out of memory.
     pub fn expand(
         &mut self,
         alloc: Global,

@@ -28,8 +28,8 @@ pub enum Lead {
 }
 
 impl<'a> Explored<'a> {
-    /// Settles after a label of entry `at`, and finds the entry there. `made` becomes the label and those that settle after
-    /// it. `Unknown` if there is none, or a bound is met. An error means out of memory.
+    /// Settles after a label of entry `at`, and finds the entry there. `made` becomes the label and those that settle
+    /// after it. `Unknown` if there is none, or a bound is met. An error means out of memory.
     fn settle_and_find(
         &mut self,
         plain: &mut Plain<'a>,
@@ -60,8 +60,8 @@ impl<'a> Explored<'a> {
         }
     }
 
-    /// Follows a label of entry `at` by the stepper. `made` becomes the label and those that settle after it. An error means
-    /// out of memory.
+    /// Follows a label of entry `at` by the stepper. `made` becomes the label and those that settle after it. An error
+    /// means out of memory.
     pub fn lead(&mut self, at: u32, label: &Label, made: &mut LabelList) -> Result<Lead, AllocError>
         requires { at < length (entries self.old) }
         ensures same { entries self.new ≡ entries self.old }
@@ -146,8 +146,8 @@ impl<'a> Explored<'a> {
         Ok(lead)
     }
 
-    /// Follows a label of entry `at`, and notes the waiters of the entry that can go on by it. Whether one was noted. An
-    /// error means out of memory.
+    /// Follows a label of entry `at`, and notes the waiters of the entry that can go on by it. Whether one was noted.
+    /// An error means out of memory.
     fn note_by(
         &mut self,
         alloc: Global,
@@ -183,8 +183,8 @@ impl<'a> Explored<'a> {
         Ok(noted)
     }
 
-    /// Follows these labels of entry `at`, and notes the waiters of the entry that can go on by them, until all are noted.
-    /// Whether one was noted. An error means out of memory.
+    /// Follows these labels of entry `at`, and notes the waiters of the entry that can go on by them, until all are
+    /// noted. Whether one was noted. An error means out of memory.
     fn note_by_all(
         &mut self,
         alloc: Global,
@@ -213,7 +213,8 @@ impl<'a> Explored<'a> {
         Ok(noted)
     }
 
-    /// Notes the waiters of entry `at` that can go on by its labels. Whether one was noted. An error means out of memory.
+    /// Notes the waiters of entry `at` that can go on by its labels. Whether one was noted. An error means out of
+    /// memory.
     fn note_at(&mut self, alloc: Global, waiters: &mut Waiters, at: u32) -> Result<bool, AllocError>
         requires exists { at < length (entries self.old) }
         requires known { AreKnown (searched self.old) (entries self.old) waiters.old.list.items }
@@ -226,8 +227,8 @@ impl<'a> Explored<'a> {
         self.note_by_all(alloc, waiters, at, &labels)
     }
 
-    /// Visits the entries, the last first, and notes their waiters that can go on. Whether one was noted. An error means
-    /// out of memory.
+    /// Visits the entries, the last first, and notes their waiters that can go on. Whether one was noted. An error
+    /// means out of memory.
     fn note_each(&mut self, alloc: Global, waiters: &mut Waiters) -> Result<bool, AllocError>
         requires { AreKnown (searched self.old) (entries self.old) waiters.old.list.items }
         ensures same { entries self.new ≡ entries self.old }

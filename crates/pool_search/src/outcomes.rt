@@ -156,8 +156,8 @@ fn visit_all<P: Progress>(
     Ok(true)
 }
 
-/// Searches all runs of a program for their outcomes, from an empty set. Whether all were found: `false` if a bound is met.
-/// An error means out of memory.
+/// Searches all runs of a program for their outcomes, from an empty set. Whether all were found: `false` if a bound is
+/// met. An error means out of memory.
 fn find_all<'a, P: Progress>(
     alloc: Global,
     program: &Checked<'a>,
@@ -206,10 +206,10 @@ fn outcomes_from<'a, P: Progress>(
     }
 }
 
-/// Searches all runs of a program for their outcomes. An error means out of memory.
-/// The search is breadth-first, so the outcomes come in the order of the fewest kept configurations.
-/// The list is not complete if more than `most` configurations would be kept,
-/// if 1,000,000 transitions that need no choice follow one another, or if no number of 32 bits is left.
+/// Searches all runs of a program for their outcomes. An error means out of memory, or more than 1,000,000 methods
+/// under way in one object. The search is breadth-first, so the outcomes come in the order of the fewest kept
+/// configurations. The list is not complete if more than `most` configurations would be kept, if 1,000,000 transitions
+/// that need no choice follow one another, or if no number of 32 bits is left.
 pub fn all_outcomes<P: Progress>(
     alloc: Global,
     program: &Checked<'_>,
@@ -224,8 +224,8 @@ pub fn all_outcomes<P: Progress>(
     outcomes_from(alloc, program, &mut explored, most, progress)
 }
 
-/// The outcome of a run with these labels, which ends where the stepper is. None if a label is possible there. An error means
-/// out of memory.
+/// The outcome of a run with these labels, which ends where the stepper is. None if a label is possible there. An error
+/// means out of memory.
 fn outcome_at(
     alloc: Global,
     plain: &Plain<'_>,
@@ -244,8 +244,8 @@ fn outcome_at(
     }))
 }
 
-/// The outcome of the run of these indexes from the start, where the stepper is. Its labels become `labels`. None if the run
-/// cannot be repeated, or a label is possible at its end. An error means out of memory.
+/// The outcome of the run of these indexes from the start, where the stepper is. Its labels become `labels`. None if
+/// the run cannot be repeated, or a label is possible at its end. An error means out of memory.
 fn outcome_after(
     alloc: Global,
     plain: &mut Plain<'_>,
@@ -315,8 +315,8 @@ fn run_at(
     }
 }
 
-/// A run with the outcome at this place in the list that a search finds which begins with this empty set. An error means
-/// out of memory.
+/// A run with the outcome at this place in the list that a search finds which begins with this empty set. An error
+/// means out of memory.
 fn run_from<'a, P: Progress>(
     alloc: Global,
     program: &Checked<'a>,
@@ -339,8 +339,8 @@ fn run_from<'a, P: Progress>(
     }
 }
 
-/// A run with the outcome at this place in the list that `all_outcomes` gives, counted from 0. An error means out of
-/// memory.
+/// A run with the outcome at this place in the list that `all_outcomes` gives, counted from 0. An error is as
+/// of `all_outcomes`.
 pub fn outcome_run<P: Progress>(
     alloc: Global,
     program: &Checked<'_>,

@@ -26,11 +26,11 @@ pub struct Query {
 /// The result of a search.
 #[derive(Drop)]
 pub enum SearchResult {
-    /// The labels of a run that gets stuck where no label is possible. They begin at the start, and the first object has
-    /// the name 0.
+    /// The labels of a run that gets stuck where no label is possible. They begin at the start, and the first object
+    /// has the name 0.
     Stuck(LabelList),
-    /// The labels of a run, in the same form, and the dead objects after it. There is at least one. Other objects can go
-    /// on.
+    /// The labels of a run, in the same form, and the dead objects after it. There is at least one. Other objects can
+    /// go on.
     Dead { labels: LabelList, names: Vec<u32> },
     /// The labels of a run that meets a run-time error, in the same form.
     Fault(LabelList),

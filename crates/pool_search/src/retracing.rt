@@ -105,8 +105,8 @@ pub fn retrace(
     Ok(true)
 }
 
-/// Repeats a run of a search for states in the same way, and returns the next free name after it. None also if its labels do
-/// not give new objects the names 1, 2, .. in order, or if no name of 32 bits is left.
+/// Repeats a run of a search for states in the same way, and returns the next free name after it. None also if its
+/// labels do not give new objects the names 1, 2, .. in order, or if no name of 32 bits is left.
 pub fn retrace_in_order(
     alloc: Global,
     plain: &mut Plain<'_>,
@@ -145,8 +145,8 @@ fn judge_end(
     }
 }
 
-/// The run of these indexes as a result. None if the run cannot be repeated, if no name of 32 bits is left, or if the query
-/// does not look for its end. An error means out of memory.
+/// The run of these indexes as a result. None if the run cannot be repeated, if no name of 32 bits is left, or if the
+/// query does not look for its end. An error means out of memory.
 pub fn show(
     alloc: Global,
     program: &Checked<'_>,

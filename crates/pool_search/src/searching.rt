@@ -48,8 +48,8 @@ pub fn begin<'a>(
     }
 }
 
-/// The objects that are dead in an entry, to which the stepper comes from the start. The labels of the run become `labels`.
-/// None if none is known to be dead. An error means out of memory.
+/// The objects that are dead in an entry, to which the stepper comes from the start. The labels of the run become
+/// `labels`. None if none is known to be dead. An error means out of memory.
 fn dead_after<'a>(
     alloc: Global,
     explored: &mut Explored<'a>,
@@ -189,12 +189,11 @@ fn search_from<'a, P: Progress>(
     }
 }
 
-/// Searches all runs of a program for one that the query looks for. An error means out of memory.
-/// The search is breadth-first, so the run of a result `Stuck` or `Fault` passes the fewest kept configurations.
-/// If no run leads to such a configuration, but a dead object is found, the result is `Dead`. Its run leads to one of the
-/// configurations with the most dead objects.
-/// The result is `Over` if more than `most` configurations would be kept,
-/// or if 1,000,000 transitions that need no choice follow one another.
+/// Searches all runs of a program for one that the query looks for. An error means out of memory, or more than
+/// 1,000,000 methods under way in one object. The search is breadth-first, so the run of a result `Stuck` or `Fault`
+/// passes the fewest kept configurations. If no run leads to such a configuration, but a dead object is found, the
+/// result is `Dead`. Its run leads to one of the configurations with the most dead objects. The result is `Over` if
+/// more than `most` configurations would be kept, or if 1,000,000 transitions that need no choice follow one another.
 /// It is also `Over` if no number of 32 bits is left for an object or for the state of an object.
 pub fn search<P: Progress>(
     alloc: Global,

@@ -24,7 +24,8 @@ fn to_follow(plain: &Plain<'_>, keeps: Keeps) -> Option<Label>
     }
 }
 
-/// Makes the transition with this label. `false` if it is impossible; then nothing changes. An error means out of memory.
+/// Makes the transition with this label. `false` if it is impossible; then nothing changes. An error means out of
+/// memory.
 pub fn make(plain: &mut Plain<'_>, label: &Label) -> Result<bool, AllocError>
     requires { is_spent plain.old ≡ false }
     ensures { IfOk result (λ yes. HasMade plain.old plain.new label.now yes) }
@@ -36,7 +37,8 @@ pub fn make(plain: &mut Plain<'_>, label: &Label) -> Result<bool, AllocError>
     }
 }
 
-/// Makes a transition that the search follows, and returns its label. None if there is none. An error means out of memory.
+/// Makes a transition that the search follows, and returns its label. None if there is none. An error means out of
+/// memory.
 fn follow_once(plain: &mut Plain<'_>, keeps: Keeps) -> Result<Option<Label>, AllocError>
     requires { is_spent plain.old ≡ false }
     ensures { IfOk result (λ r. HasStepped (course_of keeps) plain.old plain.new r) }
@@ -51,8 +53,8 @@ fn follow_once(plain: &mut Plain<'_>, keeps: Keeps) -> Result<Option<Label>, All
     }
 }
 
-/// Makes one transition that the search follows, and returns its label: the local one of the object `last`, if it can make
-/// one, so that a chain of them looks at no other object. None if there is none. An error means out of memory.
+/// Makes one transition that the search follows, and returns its label: the local one of the object `last`, if it can
+/// make one, so that a chain of them looks at no other object. None if there is none. An error means out of memory.
 fn settle_once(plain: &mut Plain<'_>, keeps: Keeps, last: u32) -> Result<Option<Label>, AllocError>
     requires { is_spent plain.old ≡ false }
     ensures { IfOk result (λ r. HasStepped (course_of keeps) plain.old plain.new r) }
@@ -82,7 +84,8 @@ pub fn settle(plain: &mut Plain<'_>, keeps: Keeps) -> Result<bool, AllocError>
     Ok(false)
 }
 
-/// Settles in the same way, and appends each label to `shown`.
+/// Settles in the same way, and appends each label to `shown`. `false` if 1,000,000 labels did not settle it. An error
+/// means out of memory, or more than 1,000,000 methods under way in one object.
 pub fn settle_shown(
     plain: &mut Plain<'_>,
     keeps: Keeps,
@@ -105,7 +108,7 @@ pub fn settle_shown(
     Ok(false)
 }
 
-/// Appends a label that was made to `shown`, and settles in the same way.
+/// Appends a label that was made to `shown`, and settles in the same way, with the same `false` and error.
 pub fn settle_after(
     plain: &mut Plain<'_>,
     keeps: Keeps,

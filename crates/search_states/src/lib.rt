@@ -14,9 +14,5 @@ mod states;
 mod table;
 
 pub use copies::copy;
-pub use expressions::{same_expression, same_expressions, same_operator};
-pub use hashes::state_hash;
-pub use names::{same_answer, same_named, same_names};
-pub use statements::{same_alternatives, same_statements};
 pub use states::same;
 pub use table::StateTable;

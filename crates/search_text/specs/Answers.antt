@@ -16,8 +16,8 @@ use Rattle.search_text.specs.declared.answers.Found.{Found}
 use Rattle.search_text.specs.declared.answers.Found.TheVariants as O
 
 -- The answer for a program. It is a run from the start to where no label is possible, with the objects that wait there.
--- Or it is a run after which objects are dead, with these objects, or a run that meets a run-time error and is no such end.
--- A run gives new objects the names 1, 2, .. in order.
+-- Or it is a run after which objects are dead, with these objects, or a run that meets a run-time error and is no such
+-- end. A run gives new objects the names 1, 2, .. in order.
 -- Or no run leads to such a configuration, under any names of objects, and a whole list of configurations shows this.
 -- Or nothing is known after this number of configurations.
 pub data Answers (names : List Text) (p : ProgramTree) (q : Query) (text : Text) (found : Found) : Type 0 where
@@ -44,23 +44,23 @@ pub record TellsOutcomes (names : List Text) (p : ProgramTree) (most : ℕ) (tex
   pub says : text ≡ outcomes_text names list ++ ending whole kept
   pub is : found ≡ found_of whole
 
--- A run from the start with the outcome at this place, counted from 1. Or the list of outcomes is complete and ends before
--- this place, or the list may not be complete.
+-- A run from the start with the outcome at this place, counted from 1. Or the list of outcomes is complete and ends
+-- before this place, or the list may not be complete.
 pub data ShowsRun (names : List Text) (p : ProgramTree) (place most : ℕ) (text : Text) (found : Found) : Type 0 where
   run : (o : Outcome) (ls : List Label) → IsRunOf p o ls → text ≡ run_text names o.kind ls → found ≡ O.Run → ShowsRun names p place most text found
   missing : (list : List Outcome) (kept : ℕ) → HasAllOutcomes p list → length list ≤ place - 1 → kept ≤ most → text ≡ finite_text kept → found ≡ O.Missing → ShowsRun names p place most text found
   unknown : (kept : ℕ) → kept ≤ most → text ≡ over_text kept → found ≡ O.Over → ShowsRun names p place most text found
 
--- The grade of a program. Each run that comes to its end has an outcome that is allowed, under any names of objects; or a
--- run from the start has one that is not. Or the list of outcomes may not be complete.
+-- The grade of a program. Each run that comes to its end has an outcome that is allowed, under any names of objects; or
+-- a run from the start has one that is not. Or the list of outcomes may not be complete.
 pub data Grades (names : List Text) (p : ProgramTree) (allowed : List Text) (most : ℕ) (text : Text) (found : Found) : Type 0 where
   passes : (list : List Outcome) (kept : ℕ) → HasAllOutcomes p list → Each (IsShown p) list → Each (λ o. is_allowed allowed names o ≡ true) list → kept ≤ most
       → text ≡ outcomes_text names list ++ finite_text kept → found ≡ O.Finite → Grades names p allowed most text found
   fails : (o : Outcome) (ls : List Label) → IsRunOf p o ls → is_allowed allowed names o ≡ false → text ≡ wrong_text names o ls → found ≡ O.Shown → Grades names p allowed most text found
   unknown : (list : List Outcome) (kept : ℕ) → Each (IsShown p) list → kept ≤ most → text ≡ outcomes_text names list ++ over_text kept → found ≡ O.Over → Grades names p allowed most text found
 
--- A question: is there a run of this kind; what are all outcomes; is there a run with the outcome at this place; does each
--- run that comes to its end write one of these outputs. The number is the bound on kept configurations.
+-- A question: is there a run of this kind; what are all outcomes; is there a run with the outcome at this place; does
+-- each run that comes to its end write one of these outputs. The number is the bound on kept configurations.
 pub data Inquiry : Type 0 where
   of_query : Query → Inquiry
   of_outcomes : (most : ℕ) → Inquiry

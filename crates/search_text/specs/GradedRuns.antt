@@ -9,8 +9,8 @@ use Rattle.reachability.specs.Search.{IsFaulty, IsStuck}
 use Rattle.record_writer.specs.RecordText.{item_text, joined}
 use Rattle.search_text.specs.Grading.{is_one_of}
 
--- At the end d no object has met an error, and none is in a call. What the run wrote is one of these outputs, under other
--- names of objects.
+-- At the end d no object has met an error, and none is in a call. What the run wrote is one of these outputs, under
+-- other names of objects.
 pub record EndsAllowed (names allowed : List Text) (p : ProgramTree) (w : List Item) (d : Configuration) : Type 0 where
   pub no_error : ¬ (IsFaulty d)
   pub none_in_a_call : ¬ (IsStuck p d)

@@ -95,7 +95,7 @@ fn kind_word(kind: EndKind) -> &'static [u8]
     }
 }
 
-/// Appends the items, each after a space.
+/// Appends the items, each after a space. An error means out of memory.
 pub fn push_items(text: &mut Vec<u8>, names: &Names, items: &[Item]) -> Result<(), AllocError>
     ensures { OnOk result (text.new.items ≡ text.old.items ++ led (map (item_text names.now) items.now)) }
 {
@@ -163,8 +163,8 @@ pub fn shown_answer(
     })
 }
 
-/// The answer for a run whose outcome is not allowed: its steps, the line of the outcome, and the end line. An error means
-/// out of memory.
+/// The answer for a run whose outcome is not allowed: its steps, the line of the outcome, and the end line. An error
+/// means out of memory.
 pub fn wrong_answer(
     alloc: Global,
     names: &Names,

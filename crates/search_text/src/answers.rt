@@ -29,10 +29,12 @@ pub enum Question<'a> {
     Sought(Query),
     /// All outcomes. The search keeps at most `most` configurations.
     Outcomes { most: u32 },
-    /// A run with the outcome at this place in the list of outcomes, counted from 1, at most 10,000,000.
+    /// A run with the outcome at this place in the list of outcomes, counted from 1. The search keeps at most `most`
+    /// configurations.
     Run { place: u32, most: u32 },
     /// Does each run that comes to its end write one of these outputs, without an error and with no object in a call?
-    /// An output is the items of the line of an outcome.
+    /// An output is the items of the line of an outcome, with a space between each two. The search keeps at most `most`
+    /// configurations.
     Graded { allowed: &'a [String], most: u32 },
 }
 
@@ -43,7 +45,8 @@ pub enum Found {
     Finite,
     /// The text has a run that leads to such a configuration, or has an outcome that is not allowed.
     Shown,
-    /// The search met a bound: on kept configurations, on transitions without a choice, or on numbers of 32 bits.
+    /// The search met a bound: `most` on kept configurations, 1,000,000 on transitions without a choice in a row, or a
+    /// bound on numbers of 32 bits.
     Over,
     /// The text has the run with the outcome that was asked for.
     Run,
@@ -211,7 +214,9 @@ fn graded_answer<P: Progress>(
     listed_answer(alloc, names, &told, false)
 }
 
-/// Searches the program, and returns the answer. An error means out of memory.
+/// Searches the program, and returns the answer. An error means out of memory, or that a limit would be exceeded. An
+/// object has at most 1,000,000 methods under way. Messages, and the parts of the kept configurations in all, have
+/// numbers of 32 bits.
 pub fn answer_of<P: Progress>(
     alloc: Global,
     program: &Checked<'_>,

@@ -59,7 +59,8 @@ pub fn is_allowed(
     Ok(is_one_of(without_first_space(&text), allowed))
 }
 
-/// The index of the first outcome that is not allowed. None if all are. An error means out of memory.
+/// The index of the first outcome that is not allowed, or 2^32 - 1 if it is greater. None if all are allowed. No proof
+/// depends on the index: the outcome there is judged again. An error means out of memory.
 pub fn first_wrong(
     alloc: Global,
     names: &Names,

@@ -120,8 +120,8 @@ fn push_part(
     push_step(text, names, &label, 1)
 }
 
-/// Appends the lines of the steps of a run. Local transitions of one object in a row share a line. An error means out of
-/// memory, or that 2^64 or more of them follow one another.
+/// Appends the lines of the steps of a run. Local transitions of one object in a row share a line. An error means out
+/// of memory, or that 2^64 or more of them follow one another.
 pub fn push_steps(text: &mut Vec<u8>, names: &Names, labels: &LabelList) -> Result<(), AllocError>
     ensures { OnOk result (text.new.items ≡ text.old.items ++ steps_text names.now (steps labels.now)) }
 {

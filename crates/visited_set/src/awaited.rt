@@ -112,8 +112,8 @@ fn are_queues_fit(
     true
 }
 
-/// Whether the object is at an `answer` or a `select`, and only objects know its name that wait for it: each of them has
-/// met an error, has finished, or is at a call of it.
+/// Whether the object is at an `answer` or a `select`, and only objects know its name that wait for it: each of them
+/// has met an error, has finished, or is at a call of it.
 pub fn is_only_awaited(
     moves: &MoveTable<'_>,
     lists: &MailLists,

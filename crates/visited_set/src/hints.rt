@@ -56,8 +56,8 @@ impl Hints {
         }
     }
 
-    /// The hint of this object in the state with this number, which names only objects below `count`. None if there is no
-    /// such state. An error means out of memory.
+    /// The hint of this object in the state with this number, which names only objects below `count`. None if there is
+    /// no such state. An error means out of memory.
     fn of(
         &mut self,
         moves: &MoveTable<'_>,
@@ -77,8 +77,8 @@ impl Hints {
         Ok(Some(hint))
     }
 
-    /// The names below 64, as bits, that some object knows which neither has the name nor awaits it. An error means out of
-    /// memory.
+    /// The names below 64, as bits, that some object knows which neither has the name nor awaits it. An error means out
+    /// of memory.
     pub fn known(
         &mut self,
         moves: &MoveTable<'_>,

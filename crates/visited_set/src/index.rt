@@ -4,8 +4,8 @@ use std::alloc::{AllocError, Global};
 /// A slot without a row.
 const FREE: u32 = u32::MAX;
 
-/// A table with open addressing, of which at most half is used. A slot takes 4 bytes. A row with the number 2^32 - 1 is not
-/// found.
+/// A table with open addressing, of which at most half is used. A slot takes 4 bytes. A row with the number 2^32 - 1 is
+/// not found.
 #[derive(Drop)]
 pub struct Index {
     slots: Vec<u32>,

@@ -16,8 +16,8 @@ pub struct Head {
     written: u32,
 }
 
-/// Configurations, numbered from 0. Contracts see the list of their rows. One takes 16 bytes, 2 for each object in a state
-/// below 65,535 and 6 in another one, 12 for each queue, and 8 to 16 in the index.
+/// Configurations, numbered from 0. Contracts see the list of their rows. One takes 16 bytes, 2 for each object in a
+/// state below 65,535 and 6 in another one, 12 for each queue, and 8 to 16 in the index.
 #[derive(Drop)]
 pub struct Rows {
     alloc: Global,
@@ -107,8 +107,8 @@ impl Rows {
         Ok(Some(wider))
     }
 
-    /// Adds a configuration with this hash at the end. An error means out of memory, or that there would be 2^32 units of 16
-    /// bits or 2^32 queues in all.
+    /// Adds a configuration with this hash at the end. An error means out of memory, or that there would be 2^32 units
+    /// of 16 bits or 2^32 queues in all.
     pub fn push(&mut self, mark: u64, row: &Numbered<'_>) -> Result<(), AllocError>
         ensures ok { OnOk result (self.new ≡ self.old ++ row_of row.now ∷ []) }
         ensures err { OnErr result (self.new ≡ self.old) }

@@ -70,7 +70,8 @@ fn push_own(
     Ok(())
 }
 
-/// Adds the labels to try of this configuration. An error means out of memory, or that there are more objects than names.
+/// Adds the labels to try of this configuration. An error means out of memory, or that there are more objects than
+/// names.
 pub fn push_to_try(
     into: &mut Vec<Label>,
     moves: &MoveTable<'_>,

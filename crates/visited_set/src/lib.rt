@@ -1,4 +1,5 @@
-//! The visited set of a search: each configuration once, as a row of numbers, with where its labels lead and who waits in it.
+//! The visited set of a search: each configuration once, as a row of numbers, with where its labels lead and who waits
+//! in it.
 //!
 //! Objects are the numbers of their states, and messages are the numbers of their lists.
 //!

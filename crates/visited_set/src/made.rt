@@ -53,8 +53,8 @@ fn mails_of(alloc: Global, queue: &MessageQueue) -> Result<Vec<Mail>, AllocError
     Ok(mails)
 }
 
-/// The queues of these messages, in the order of their pairs; new lists of messages are added to the table. None if the table
-/// is full. An error means out of memory, or an error of `MailLists::number_of`.
+/// The queues of these messages, in the order of their pairs; new lists of messages are added to the table. None if the
+/// table is full. An error means out of memory, or an error of `MailLists::number_of`.
 pub fn queues_of(
     alloc: Global,
     table: &mut MailLists,

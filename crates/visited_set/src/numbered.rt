@@ -11,8 +11,8 @@ pub struct Queue {
     pub mails: u32,
 }
 
-/// A configuration, the next free name, and the number of what was written. `objects` has the number
-/// of each object's state, in the order of the names 0, 1, 2, .. `queues` are in the order of their senders and receivers.
+/// A configuration, the next free name, and the number of what was written. `objects` has the number of each object's
+/// state, in the order of the names 0, 1, 2, .. `queues` are in the order of their senders and receivers.
 #[derive(Clone, Copy)]
 pub struct Numbered<'b> {
     pub next: u32,

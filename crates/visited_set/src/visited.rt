@@ -47,10 +47,11 @@ pub enum Found {
     At(Entry),
 }
 
-/// Configurations of one program, each with its next free name and what was written, as a row of numbers: of the states of
-/// its objects, of its lists of messages, and of the list of what was written. At most 2^32 configurations, 2^32 - 1 object
-/// states and 2^32 lists of messages fit. A configuration can be in the set twice after a collision of the hashes of
-/// messages or of object states, which then have two numbers.
+/// Configurations of one program, each with its next free name and what was written, as a row of numbers: of the states
+/// of its objects, of its lists of messages, and of the list of what was written. At most 2^32 configurations, 2^32 - 1
+/// object states and 2^32 lists of messages fit. All rows together have fewer than 2^32 units of 16 bits. A
+/// configuration can be in the set twice after a collision of the hashes of messages or of object states, which then
+/// have two numbers.
 #[derive(Drop)]
 pub struct VisitedSet<'a> {
     alloc: Global,
@@ -87,15 +88,6 @@ impl<'a> VisitedSet<'a> {
     ghost use Rattle.reachability.specs.Search.{WaitsAt};
     ghost use Rattle.run_types.specs.Tables.{Each};
     ghost use Rattle.visited_set.specs.VisitedConfigurations.{IsFull, entry, kept_list, kept_lists, kept_program};
-
-    /// An empty set for the program of `plain`.
-    pub fn make(alloc: Global, plain: &Plain<'a>) -> Result<VisitedSet<'a>, AllocError>
-        ensures list { IfOk result (λ k. kept_list k ≡ []) }
-        ensures lists { IfOk result (λ k. kept_lists k ≡ [] ∷ []) }
-        ensures program { IfOk result (λ k. kept_program k ≡ program_tree plain.now) }
-    {
-        Ok(VisitedSet::empty(alloc, plain.state().program))
-    }
 
     /// An empty set for this program.
     pub fn empty(alloc: Global, program: &'a Program) -> VisitedSet<'a>
@@ -223,8 +215,8 @@ impl<'a> VisitedSet<'a> {
         numbers_of(self.alloc, &mut self.moves, objects)
     }
 
-    /// The queues of these messages. New lists of messages are added to the table. None if the table is full. An error means
-    /// out of memory, or an error of `MailLists::number_of`.
+    /// The queues of these messages. New lists of messages are added to the table. None if the table is full. An error
+    /// means out of memory, or an error of `MailLists::number_of`.
     fn queues(
         &mut self,
         messages: &BTreeMap<(u32, u32), MessageQueue>,
@@ -241,9 +233,9 @@ impl<'a> VisitedSet<'a> {
         queues_of(self.alloc, &mut self.mails, messages)
     }
 
-    /// The index of a configuration, with what was written. Requires that it is one of the set's program, and the number of
-    /// a list. None if it is not found: it is not in the set, or its hash was that of another. An error means out of
-    /// memory.
+    /// The index of a configuration, with what was written. Requires that it is one of the set's program, and the
+    /// number of a list. None if it is not found: it is not in the set, or its hash was that of another. An error means
+    /// out of memory.
     pub fn find(
         &mut self,
         plain: &Plain<'a>,
@@ -279,10 +271,9 @@ impl<'a> VisitedSet<'a> {
     }
 
     /// Looks a configuration up, with what was written, and adds it if it was not found. Requires that it is one of the
-    /// set's program, and the number of a list.
-    /// None if the set, the table of object states or that of lists of messages is full, or if the
-    /// objects are not named 0, 1, 2, .. An error means out of memory, or that no number of 32 bits is left for a message or
-    /// for an item of a list.
+    /// set's program, and the number of a list. None if the set, the table of object states or that of lists of
+    /// messages is full, or if the objects are not named 0, 1, 2, .. An error means out of memory, or that no number of
+    /// 32 bits is left for a message or for an item of a list.
     pub fn keep(
         &mut self,
         plain: &Plain<'a>,
@@ -359,8 +350,8 @@ impl<'a> VisitedSet<'a> {
         }
     }
 
-    /// The names below 64, as bits, that some object of the configuration at this index knows which neither has the name nor
-    /// awaits it. Nothing is claimed of them. An error means out of memory.
+    /// The names below 64, as bits, that some object of the configuration at this index knows which neither has the
+    /// name nor awaits it. Nothing is claimed of them. An error means out of memory.
     pub fn known(&self, at: usize, hints: &mut Hints) -> Result<u64, AllocError>
         requires { at < length (kept_list self.now) }
     {
@@ -380,8 +371,8 @@ impl<'a> VisitedSet<'a> {
         }
     }
 
-    /// Adds the objects that wait in the configuration at this index, as those of the next entry. `false` if no name of 32
-    /// bits is left. An error means out of memory.
+    /// Adds the objects that wait in the configuration at this index, as those of the next entry. `false` if no name of
+    /// 32 bits is left. An error means out of memory.
     pub fn add_waiters(
         &self,
         at: usize,
@@ -397,10 +388,10 @@ impl<'a> VisitedSet<'a> {
         waiters.add(entry, &self.moves, numbers.as_slice())
     }
 
-    /// Looks up where the label leads from the configuration at this index, after transitions that are followed. If that
-    /// configuration, with this next name and this number of what was written, is not found, it is added if `adds`.
-    /// `moved` becomes a list of objects that these transitions change. `Absent` if it is not
-    /// found and not `adds`. `Unknown` where `MoveTable::lead` cannot tell, and if a bound is met. An error means out of memory.
+    /// Looks up where the label leads from the configuration at this index, after transitions that are followed. If
+    /// that configuration, with this next name and this number of what was written, is not found, it is added if
+    /// `adds`. `moved` becomes a list of objects that these transitions change. `Absent` if it is not found and not
+    /// `adds`. `Unknown` where `MoveTable::lead` cannot tell, and if a bound is met. An error means out of memory.
     pub fn lead(
         &mut self,
         at: usize,

@@ -39,8 +39,8 @@ impl Waiters {
         }
     }
 
-    /// Adds the objects that wait in the next entry, of which these are the state numbers. `false` if no name of 32 bits is
-    /// left. An error means out of memory.
+    /// Adds the objects that wait in the next entry, of which these are the state numbers. `false` if no name of 32
+    /// bits is left. An error means out of memory.
     pub fn add(
         &mut self,
         entry: u32,
@@ -72,7 +72,7 @@ impl Waiters {
         Ok(true)
     }
 
-    /// The indexes of the waiters of this entry: the first, and the first after them.
+    /// The indexes of the waiters of this entry: the first, and the first after them. No proof depends on them.
     pub fn row(&self, entry: u32) -> (usize, usize) {
         let starts = self.starts.as_slice();
         let Some(from) = starts.get(entry as usize) else {
@@ -135,7 +135,7 @@ impl Waiters {
         }
     }
 
-    /// Whether it is not known of some waiter of this entry that it can go on.
+    /// Whether it is not known of some waiter of this entry that it can go on. No proof depends on it.
     pub fn any_open(&self, entry: u32) -> bool {
         let (from, until) = self.row(entry);
         for index in from..until {
@@ -146,8 +146,8 @@ impl Waiters {
         false
     }
 
-    /// Whether the waiter at this index is one of entry `at` of which this is not known yet: it is one of the objects, or
-    /// it can go on in entry `to`.
+    /// Whether the waiter at this index is one of entry `at` of which this is not known yet: it is one of the objects,
+    /// or it can go on in entry `to`.
     pub fn goes_on_by(&self, index: usize, at: u32, to: u32, moved: &[u32]) -> bool
         ensures { result ≡ true → GoesOnBy index at to moved.now self.now.list.items }
     {
@@ -186,8 +186,8 @@ impl Waiters {
         true
     }
 
-    /// Of the entries with the most waiters of which it is not known that they can go on, the first. None if there is no
-    /// such waiter.
+    /// Of the entries with the most waiters of which it is not known that they can go on, the first. None if there is
+    /// no such waiter. No proof depends on it.
     pub fn fullest(&self) -> Option<u32> {
         let mut found = None;
         let mut most: u32 = 0;

@@ -17,7 +17,8 @@ pub struct Node {
 }
 
 /// Lists of items. The number 0 is the empty list. The node at index i is the list with the number i + 1. `latest` has
-/// the last number of each hash. At most 2^32 lists fit. A list can have two numbers after a collision of hashes.
+/// the last number of each hash; no proof depends on it. At most 2^32 lists fit. A list can have two numbers after a
+/// collision of hashes.
 #[derive(Drop)]
 pub struct Writings {
     nodes: Vec<Node>,
