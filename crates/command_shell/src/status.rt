@@ -3,7 +3,7 @@ ghost use Rattle.std.specs.Prelude.{◌≡◌};
 ghost use Rattle.command_shell.specs.Statuses.{code_of};
 
 /// The status with which a call of `pool` or `explore` ends.
-#[derive(Clone, Copy, Debug, PartialEq, Eq)]
+#[derive(Clone, Copy)]
 pub enum Status {
     /// The run ended quiet, the text was written, the record is a run, no run leads to what a search looks for, all
     /// outcomes are listed, or the outcome that was asked for is shown.

@@ -11,7 +11,7 @@ use Rattle.command_inputs.specs.declared.fault.Fault.TheVariants as F
 use Rattle.command_inputs.specs.declared.fault.Input.{Input}
 use Rattle.command_inputs.specs.declared.fault.Input.TheVariants as I
 use Rattle.command_inputs.specs.declared.fault.InputError.TheVariants as T
-use Rattle.label_text.specs.WrittenText.{writes_text}
+use Rattle.record_writer.specs.WrittenText.{writes_text}
 use Rattle.stream_check.specs.declared.judge.Judge.{Judge}
 use Rattle.stream_check.specs.declared.judge.Stop.{Stop}
 use Rattle.stream_check.specs.declared.judge.Stop.TheVariants as Why

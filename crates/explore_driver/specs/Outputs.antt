@@ -15,7 +15,7 @@ use Rattle.record_check.specs.RecordJudgement.{Judged}
 use Rattle.search_text.specs.declared.answers.Found.{Found}
 use Rattle.search_text.specs.declared.answers.Found.TheVariants as O
 use Rattle.search_text.specs.Answers.{Inquiry, IsAnswerTo}
-use Rattle.record_fill.specs.Filled.{IsFilled}
+use Rattle.stream_check.specs.Filled.{IsFilled}
 use Rattle.record_writer.specs.RecordText.{record_text}
 use Rattle.watch_text.specs.WatchedRun.{IsWatched, IsWatchedPart}
 use Rattle.watch_text.specs.Waits.{IsWaits}

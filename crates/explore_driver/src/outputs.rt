@@ -19,15 +19,15 @@ use command_inputs::{
     InputError, NamedLines, judge_classes, read_lines, read_named_lines, read_parsed,
 };
 use command_shell::{Status, status_of_verdict};
-use label_text::push_line;
 use pool_outside::Files;
 use pool_search::Progress;
 use record_check::theorems::a_record_has_one_verdict;
-use record_fill::fill_record;
+use record_writer::push_line;
 use run_record::theorems::what_is_read_is_readable;
 use run_types::{Line, Names};
 use search_text::{Found, Question, answer_of};
 use std::alloc::{AllocError, Global};
+use stream_check::fill_record;
 use watch_text::{Watched, report_waits, watch_lines, watch_record};
 
 /// The text of an output, and the status with which it is written.

@@ -21,7 +21,7 @@ pub struct FrameHead {
 }
 
 /// The limit that an operation would exceed.
-#[derive(Clone, Copy, Debug)]
+#[derive(Clone, Copy)]
 pub enum HeapFull {
     Objects,
     Frames,

@@ -1,3 +1,4 @@
+pub mod CreateStep
 pub mod LocalTurn
 pub mod TurnSelection
 pub mod NodeAct

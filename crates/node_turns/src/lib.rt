@@ -3,6 +3,7 @@
 //! Does not know: packets that arrive, links and other nodes.
 #![tactic(auto)]
 
+mod making;
 mod turn;
 
 pub use turn::{first_ready, turn_of};

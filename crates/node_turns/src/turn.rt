@@ -19,12 +19,12 @@ ghost use Rattle.node_acts.specs.NodeSteps.{IsSet, IsTurned, kept};
 ghost use Rattle.node_state.specs.Bits.{first_bit_from};
 ghost use Rattle.node_turns.specs.Bits.{bit_in_turn};
 
+use crate::making::create_turn;
 use code_semantics::Unit;
 use node_acts::{
     NodePlan, Returning, Sending, StepOutput, TurnOutcome, async_turn, call_turn, choose_turn,
     fault_turn, name_of, return_turn, write_turn,
 };
-use node_making::create_turn;
 use node_state::NodeParts;
 use object_interp::{Burst, Need, burst};
 use run_types::{FullKind, Label, Placement, What};

@@ -63,7 +63,7 @@ use Rattle.pool_driver.specs.Readers.{IsPlacedAs, IsScheduledAs, IsUnitOf}
 use Rattle.run_loop.specs.Loading.{lines_of, run_of, run_text}
 use Rattle.pool_driver.specs.Runs.{CodeMeaning, Meaning, ShowsCodeRun, ShowsRun, record_of}
 use Rattle.run_loop.specs.Shown.{ends_text, ring_text, status_of}
-use Rattle.label_text.specs.WrittenText.{writes_of, writes_text}
+use Rattle.record_writer.specs.WrittenText.{writes_of, writes_text}
 use Rattle.run_loop.proofs.Laws.{plan_is_on}
 use Rattle.pool_driver.proofs.ReadableLaws.{events_read}
 

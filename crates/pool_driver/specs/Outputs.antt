@@ -22,7 +22,7 @@ use Rattle.command_inputs.specs.Programs.{IsParsed}
 use Rattle.run_loop.specs.Reports.{rows_of}
 use Rattle.pool_driver.specs.Runs.{CodeMeaning, Meaning, ShowsCodeRun, ShowsRun, code_record_of, record_of}
 use Rattle.run_loop.specs.Shown.{ends_text, ring_text, status_of}
-use Rattle.label_text.specs.WrittenText.{writes_text}
+use Rattle.record_writer.specs.WrittenText.{writes_text}
 use Rattle.pool_gen.specs.Ring.{ring_placement, ring_program, ring_schedule}
 use Rattle.wait_report.specs.Report.{report_text}
 use Rattle.run_types.specs.declared.verdicts.Verdict.{Verdict}

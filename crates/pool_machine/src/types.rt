@@ -12,7 +12,7 @@ pub(crate) struct Plan<'a> {
 }
 
 /// The reason that a machine was not made: memory ran out.
-#[derive(Clone, Copy, Debug)]
+#[derive(Clone, Copy)]
 pub enum OpenFault {
     Memory,
 }

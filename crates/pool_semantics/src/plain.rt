@@ -30,7 +30,7 @@ use std::alloc::{AllocError, Global};
 use std::collections::BTreeMap;
 
 /// The reason why a label was not applied.
-#[derive(Clone, Copy, Debug)]
+#[derive(Clone, Copy)]
 pub enum Refuse {
     /// The label is not possible. The redex is that of the receiver for Answer, Return and Take, and that of the
     /// label's object for every other label.

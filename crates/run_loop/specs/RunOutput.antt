@@ -33,7 +33,7 @@ use Rattle.run_loop.specs.declared.drive.RunEnd.{RunEnd}
 use Rattle.pool_outside.specs.declared.calls.WriteFault.{WriteFault}
 use Rattle.command_shell.specs.Writing.{Writing, Wrote, WroteFront}
 use Rattle.run_loop.specs.Shown.{ended, end_text, events_in, moves_in, record_over, shows_fault, status_of}
-use Rattle.label_text.specs.WrittenText.{writes_of}
+use Rattle.record_writer.specs.WrittenText.{writes_of}
 
 -- the item that a step writes
 abbrev pub item_of : What → Option Item

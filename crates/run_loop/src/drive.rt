@@ -6,7 +6,7 @@ ghost use Rattle.mesh_semantics.specs.Config.{Config};
 ghost use Rattle.mesh_semantics.specs.Delay.{Delay};
 ghost use Rattle.mesh_of_code.specs.Coded.{Placed};
 ghost use Rattle.pool_machine.specs.Answers.{MachineRepresents};
-ghost use Rattle.label_text.specs.WrittenText.{writes_of};
+ghost use Rattle.record_writer.specs.WrittenText.{writes_of};
 ghost use Rattle.record_writer.specs.Writable.{AreShort, IsWritable, id_of_what};
 ghost use Rattle.run_loop.specs.RunOutput.{Drives, HasBegun, IsLoaded, IsTableOf, item_of, shown_first, shown_line, tells_fault};
 ghost use Rattle.command_shell.specs.Writing.{Wrote, WroteFront, writing, Writes};

@@ -4,7 +4,7 @@ use crate::types::Value;
 use std::marker::Model;
 
 /// An argument list of at most 8 values. Contracts see it as a list.
-#[derive(Clone, Copy, Debug, PartialEq, Eq)]
+#[derive(Clone, Copy)]
 pub struct Args {
     values: [Value; 8],
     count: usize,

@@ -4,7 +4,7 @@ use crate::args::Args;
 use crate::list::List;
 
 /// The number of a text in the table of a program's names and strings: its index there.
-#[derive(Clone, Copy, Debug, PartialEq, Eq)]
+#[derive(Clone, Copy, PartialEq, Eq)]
 pub struct NameId(pub u32);
 
 /// An operator of the language. `Neg` and `Not` are prefix operators, all others are infix.
@@ -28,7 +28,7 @@ pub enum Op {
 }
 
 /// A value of the language: a 64-bit integer, a truth value, the name of an object, or `nil`.
-#[derive(Clone, Copy, Debug, PartialEq, Eq)]
+#[derive(Clone, Copy)]
 pub enum Value {
     Int(i64),
     Bool(bool),
@@ -46,7 +46,7 @@ pub enum Serves {
 }
 
 /// A run-time error of the language.
-#[derive(Clone, Copy, Debug, PartialEq, Eq)]
+#[derive(Clone, Copy)]
 pub enum Error {
     NilDestination,
     NilOperand,
@@ -56,7 +56,7 @@ pub enum Error {
 }
 
 /// An item that `write` puts out: a value, or a string of the program.
-#[derive(Clone, Copy, Debug, PartialEq, Eq)]
+#[derive(Clone, Copy)]
 pub enum Item {
     Value(Value),
     Text(NameId),
@@ -247,14 +247,14 @@ pub enum Place {
 }
 
 /// A link, from a node to a neighbour.
-#[derive(Clone, Copy, Debug, PartialEq, Eq)]
+#[derive(Clone, Copy)]
 pub struct LinkId {
     pub from: u32,
     pub to: u32,
 }
 
 /// A line of a routing table: at the node `at`, a packet for the node `goal` goes to the neighbour `next`.
-#[derive(Clone, Copy, Debug, PartialEq, Eq)]
+#[derive(Clone, Copy)]
 pub struct Route {
     pub at: u32,
     pub goal: u32,

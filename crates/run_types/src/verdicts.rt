@@ -4,7 +4,7 @@ use crate::args::Args;
 use crate::types::{Error, Item, NameId, Value};
 
 /// The next action of an object.
-#[derive(Clone, Copy, Debug, PartialEq, Eq)]
+#[derive(Clone, Copy)]
 pub enum Redex {
     NoObject,
     Finished,
@@ -22,7 +22,7 @@ pub enum Redex {
 }
 
 /// The verdict on a record.
-#[derive(Clone, Copy, Debug, PartialEq, Eq)]
+#[derive(Clone, Copy)]
 pub enum Verdict {
     /// The record is a run of the program.
     Yes,

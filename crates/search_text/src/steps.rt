@@ -9,7 +9,7 @@ ghost use Rattle.search_text.specs.OpenSteps.{open_labels, text_from};
 ghost use Rattle.search_text.specs.Steps.{local_of, other_than_local, steps};
 
 use label_list::{LabelList, Part};
-use label_text::push_label;
+use record_writer::push_label;
 use run_types::{Label, Names};
 use std::alloc::AllocError;
 

@@ -5,4 +5,10 @@ pub mod NextLine
 pub mod WholeLines
 pub mod OneText
 pub mod ReadIsFollowed
+pub mod KeptLines
+pub mod LocalRuns
+pub mod GrownLines
+pub mod RootOfLines
+pub mod LoopSteps
+pub mod FilledVerdict
 pub mod Laws

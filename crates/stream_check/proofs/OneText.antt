@@ -14,7 +14,7 @@ use Rattle.pool_relation.specs.Transition.{run, start}
 use Rattle.pool_relation.proofs.Laws.{none_joined}
 use Rattle.run_types.proofs.Laws.{same_some}
 use Rattle.mesh_semantics.specs.Record.{labels}
-use Rattle.label_text.specs.WrittenText.{writes_text}
+use Rattle.record_writer.specs.WrittenText.{writes_text}
 use Rattle.record_check.specs.RecordJudgement.{Judged, LeadsTo, StopsAt, root}
 use Rattle.record_check.specs.VerdictText.{verdict_text}
 use Rattle.record_check.proofs.Laws.{labels_split, no_run, same_start}

@@ -3,7 +3,7 @@ use Rattle.std.proofs.Common.{refl, List, None}
 use Rattle.text_scan.specs.Text.{Text}
 use Rattle.pool_syntax.specs.Terms.{ProgramTree}
 use Rattle.pool_semantics.specs.PlainOf.{configuration_of}
-use Rattle.label_text.specs.WrittenText.{writes_text}
+use Rattle.record_writer.specs.WrittenText.{writes_text}
 use Rattle.stream_check.specs.declared.judge.Judge.{Judge}
 use Rattle.stream_check.specs.Followed.{IsFollowed}
 use Rattle.stream_check.specs.Progress.{HasRead, IsFresh}

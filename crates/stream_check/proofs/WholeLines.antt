@@ -13,7 +13,7 @@ use Rattle.pool_relation.specs.Transition.{start}
 use Rattle.pool_relation.proofs.Laws.{joined}
 use Rattle.mesh_semantics.specs.Record.{labels, labels_of}
 use Rattle.pool_semantics.specs.PlainOf.{configuration_of}
-use Rattle.label_text.specs.WrittenText.{writes_of, writes_text}
+use Rattle.record_writer.specs.WrittenText.{writes_of, writes_text}
 use Rattle.record_check.specs.RecordJudgement.{IsRunOf, LeadsTo, StillMoves, root}
 use Rattle.record_check.specs.Verdicts.{StopsLine}
 use Rattle.record_parser.specs.Fields.{fields, parts}

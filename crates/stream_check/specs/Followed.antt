@@ -11,7 +11,7 @@ use Rattle.pool_syntax.specs.Terms.{ProgramTree}
 use Rattle.pool_relation.specs.Configuration.{Configuration}
 use Rattle.pool_relation.specs.Progress.{agent}
 use Rattle.pool_semantics.specs.Shown.{Shows}
-use Rattle.label_text.specs.WrittenText.{writes_text}
+use Rattle.record_writer.specs.WrittenText.{writes_text}
 use Rattle.record_check.specs.RecordJudgement.{IsRunOf, LeadsTo, StillMoves, StopsAt}
 use Rattle.record_check.specs.VerdictText.{verdict_text}
 use Rattle.stream_check.specs.declared.judge.Stop.{Stop}

@@ -10,7 +10,7 @@ use Rattle.pool_relation.specs.Configuration.{Configuration}
 use Rattle.pool_relation.specs.Transition.{run, start}
 use Rattle.mesh_semantics.specs.Record.{labels}
 use Rattle.pool_semantics.specs.PlainOf.{configuration_of, program_tree, is_spent}
-use Rattle.label_text.specs.WrittenText.{writes_of}
+use Rattle.record_writer.specs.WrittenText.{writes_of}
 use Rattle.record_check.specs.RecordJudgement.{IsRunOf, LeadsTo, StillMoves, root}
 use Rattle.record_check.specs.VerdictText.{verdict_text}
 use Rattle.record_check.specs.Verdicts.{StopsLine}

@@ -6,7 +6,7 @@ ghost use Rattle.run_types.specs.declared.types.Line.TheVariants as R;
 ghost use Rattle.pool_syntax.specs.Terms.{ProgramTree};
 ghost use Rattle.pool_syntax.specs.TreeOf.{program_of};
 ghost use Rattle.pool_semantics.specs.PlainOf.{configuration_of, program_tree, is_spent};
-ghost use Rattle.label_text.specs.WrittenText.{writes_of, writes_text};
+ghost use Rattle.record_writer.specs.WrittenText.{writes_of, writes_text};
 ghost use Rattle.record_check.specs.RecordJudgement.{LeadsTo};
 ghost use Rattle.record_parser.specs.Fields.{fields};
 ghost use Rattle.record_parser.specs.Lines.{line_of};
@@ -17,10 +17,10 @@ ghost use Rattle.stream_check.specs.Stream.{comes_next, cut_off, has_end, stream
 
 use crate::lines::{comes_next, is_quiet, next_number};
 use class_check::Checked;
-use label_text::{push_end, push_written};
 use pool_semantics::{Plain, agent};
 use record_check::{follow_line, verdict_line};
 use record_parser::{cut, line_in};
+use record_writer::{push_end, push_written};
 use run_record::{RecordFault, label_of, numbered_in};
 use run_types::{End, Line, Names, Verdict};
 use std::alloc::{AllocError, Global};

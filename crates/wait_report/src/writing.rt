@@ -15,7 +15,7 @@ use run_types::{List, Names};
 use std::alloc::{AllocError, Global};
 
 /// The reason that the report was not written whole: a write failed, or memory ran out.
-#[derive(Clone, Copy, Debug)]
+#[derive(Clone, Copy)]
 pub enum ReportFault {
     Failed,
     Memory,

@@ -1,3 +1,4 @@
+pub mod MailTexts
 pub mod Stopping
 pub mod JoinedLines
 pub mod WatchedEnds

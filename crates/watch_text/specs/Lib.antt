@@ -2,5 +2,6 @@
 pub mod WatchedRun
 pub mod Waits
 -- Internal: what it does not.
+pub mod Acting
 pub mod ObjectRows
 pub mod Steps

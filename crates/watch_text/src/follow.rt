@@ -7,8 +7,8 @@ ghost use Rattle.record_check.specs.Verdicts.{StopsIn, StopsLine};
 ghost use Rattle.term_text.specs.Watched.{followed_text, shown_change};
 ghost use Rattle.watch_text.specs.Steps.{step_text};
 
+use crate::changes::push_change;
 use crate::line::push_line;
-use object_blocks::push_change;
 use pool_semantics::Plain;
 use record_check::{Mismatch, follow_line};
 use run_types::{Line, Names, What};

@@ -3,8 +3,7 @@ ghost use Rattle.std.specs.Prelude.{◌≡◌, ◌++◌, OnOk};
 ghost use Rattle.run_types.specs.declared.types.Line.TheVariants as R;
 ghost use Rattle.term_text.specs.Watched.{told_line};
 
-use label_text::{push_effect, push_end};
-use record_writer::push_number;
+use record_writer::{push_effect, push_end, push_number};
 use run_types::{Event, Line, Names, What};
 use std::alloc::AllocError;
 

@@ -15,8 +15,8 @@ ghost use Rattle.term_text.specs.Watched.{followed_text, line};
 ghost use Rattle.watch_text.specs.WatchedRun.{IsWatched, ending, waiting_text};
 
 use crate::follow::push_followed;
+use crate::wholes::push_configuration;
 use class_check::Checked;
-use object_blocks::push_configuration;
 use pool_semantics::Plain;
 use record_check::{Mismatch, judge_end, root, verdict_line};
 use run_types::{Line, Names, Verdict};

@@ -1,7 +1,7 @@
 use Rattle.std.proofs.Common.{◌∙◌, ◌++◌, ap, subst}
 use Rattle.text_scan.specs.Text.{Text}
 use Rattle.pool_syntax.specs.TreeOf.{program_of}
-use Rattle.record_fill.specs.Filled.{IsFilled}
+use Rattle.stream_check.specs.Filled.{IsFilled}
 use Rattle.record_writer.specs.RecordText.{record_text}
 use Rattle.explore_driver.proofs.outputs.filled.Goals as goal
 

@@ -7,7 +7,7 @@ use Rattle.node_state.specs.Views.{arrivals_of}
 use Rattle.object_interp.specs.declared.types.Need.{Need}
 use Rattle.object_interp.specs.declared.types.Hand.TheVariants as H
 use Rattle.node_state.proofs.Laws.{slot_real, hand_new, hand_answer, hand_select, selecting_chooses, can_choose}
-use Rattle.node_making.proofs.Laws.{class_found, class_below}
+use Rattle.node_turns.proofs.CreateStep.{class_found, class_below}
 use Rattle.node_acts.proofs.Laws.{halted_rests, kind_async, kind_fault, kind_return, kind_send, kind_write}
 use Rattle.node_turns.proofs.turn.need_turn.Goals as goal
 

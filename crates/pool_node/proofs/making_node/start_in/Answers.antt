@@ -2,7 +2,7 @@ use Rattle.std.proofs.Common.{◌≡◌, List, length, sym, ap, ◌∙◌, arith
 use Rattle.run_types.specs.declared.frames.CodeObject.{CodeObject}
 use Rattle.node_heap.specs.Heaps.{frames_of}
 use Rattle.mesh_of_code.specs.Coded.{placed}
-use Rattle.node_making.proofs.Laws.{class_below}
+use Rattle.node_turns.proofs.Laws.{class_below}
 use Rattle.node_state.proofs.Laws.{on_ok}
 use Rattle.pool_node.proofs.NodeReport.{nothing_there, ok_of, root_is, root_named}
 use Rattle.pool_node.proofs.making_node.start_in.Goals as goal

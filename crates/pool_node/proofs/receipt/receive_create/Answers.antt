@@ -1,6 +1,6 @@
 use Rattle.std.proofs.Common.{refl, sym, ap, ◌∙◌, arith}
 use Rattle.node_semantics.specs.Node.{name_at}
-use Rattle.node_making.proofs.Laws.{no_fewer, some_placed}
+use Rattle.node_turns.proofs.Laws.{no_fewer, some_placed}
 use Rattle.pool_node.proofs.PacketReceipt.{create_heap, create_frames, create_cells, create_made}
 use Rattle.pool_node.proofs.receipt.receive_create.Goals as goal
 

@@ -7,7 +7,7 @@ use Rattle.rendezvous_protocol.specs.Packets.{numbered}
 use Rattle.node_state.specs.Views.{node_of}
 use Rattle.node_acts.specs.ActOf.{act_of}
 use Rattle.node_acts.specs.NodeSteps.{ReportsAct}
-use Rattle.node_making.proofs.Laws.{class_below}
+use Rattle.node_turns.proofs.Laws.{class_below}
 use Rattle.pool_node.proofs.PacketReceipt.{named_there, object_there}
 use Rattle.pool_node.proofs.receipt.received.Goals as goal
 

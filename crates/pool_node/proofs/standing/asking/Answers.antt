@@ -5,7 +5,7 @@ use Rattle.node_heap.specs.Heaps.{object_at}
 use Rattle.object_interp.specs.declared.types.Need.{Need}
 use Rattle.object_interp.specs.declared.types.Hand.TheVariants as H
 use Rattle.node_state.proofs.Laws.{slot_real, hand_new}
-use Rattle.node_making.proofs.Laws.{class_found, class_below, class_name}
+use Rattle.node_turns.proofs.Laws.{class_found, class_below, class_name}
 use Rattle.pool_node.proofs.NodeReport.{calls, creates}
 use Rattle.pool_node.proofs.standing.asking.Goals as goal
 

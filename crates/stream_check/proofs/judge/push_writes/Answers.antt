@@ -1,7 +1,7 @@
 use Rattle.std.proofs.Common.{◌≡◌, ◌++◌, sym, subst}
 use Rattle.std.specs.Prelude.{OnOk}
 use Rattle.run_types.specs.declared.types.Line.{Line}
-use Rattle.label_text.specs.WrittenText.{writes_of}
+use Rattle.record_writer.specs.WrittenText.{writes_of}
 use Rattle.stream_check.proofs.judge.push_writes.Goals as goal
 
 pub returns-in-Event : goal.returns-in-Event

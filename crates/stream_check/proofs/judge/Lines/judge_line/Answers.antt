@@ -1,6 +1,6 @@
 use Rattle.std.proofs.Common.{None, Some, refl, sym, ◌∙◌}
 use Rattle.pool_syntax.specs.TreeOf.{program_of}
-use Rattle.label_text.specs.WrittenText.{writes_of}
+use Rattle.record_writer.specs.WrittenText.{writes_of}
 use Rattle.record_parser.specs.Fields.{fields}
 use Rattle.record_parser.specs.Lines.{line_of}
 use Rattle.record_parser.specs.ReadLineView.{told}

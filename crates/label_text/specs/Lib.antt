@@ -1,2 +1,0 @@
--- Believed: what a top call's contract reaches.
-pub mod WrittenText

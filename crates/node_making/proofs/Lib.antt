@@ -1,2 +1,0 @@
-pub mod CreateStep
-pub mod Laws

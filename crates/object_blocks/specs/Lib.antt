@@ -1,2 +1,0 @@
--- Internal: what it does not.
-pub mod Acting

@@ -1,7 +1,0 @@
-use Rattle.std.proofs.Common.{drop}
-use Rattle.record_fill.specs.Progress.{Follows}
-use Rattle.record_fill.proofs.filling.Filling.judge.Given as goal
-
--- the lines so far were filled
-abbrev pub invariant-loop-place : goal.invariant-loop-place
-invariant-loop-place l = Follows l.lines (drop l.place l.lines) l.initial.self l.self
