@@ -228,11 +228,11 @@ fn grade_of<'a>(words: &'a [String]) -> Option<Asked<'a>>
 /// than the first.
 fn lines_of<'a>(
     program: &'a str,
-    record: &'a str,
+    claim: &'a str,
     first: Decimal,
     last: Decimal,
 ) -> Option<Asked<'a>>
-    ensures request { option_map request result ≡ lines_of program.entry.now record.entry.now first last }
+    ensures request { option_map request result ≡ lines_of program.entry.now claim.entry.now first last }
     ensures sized { IfSome result (λ asked. IsSized asked) }
 {
     match first {
@@ -242,7 +242,7 @@ fn lines_of<'a>(
                     Some(Asked::Watch {
                         shown: Shown::Lines { first, last },
                         program,
-                        record,
+                        record: claim,
                     })
                 } else {
                     None
@@ -255,38 +255,33 @@ fn lines_of<'a>(
 }
 
 /// What is shown of the record of two names. None if a name begins with `-`.
-fn watch_of_two<'a>(shown: Shown, program: &'a str, record: &'a str) -> Option<Asked<'a>>
+fn watch_of_two<'a>(shown: Shown, program: &'a str, claim: &'a str) -> Option<Asked<'a>>
     requires { IsOrdered shown }
-    ensures request { option_map request result ≡ pair_of (of_watch shown) (program.entry.now ∷ record.entry.now ∷ []) }
+    ensures request { option_map request result ≡ pair_of (of_watch shown) (program.entry.now ∷ claim.entry.now ∷ []) }
     ensures sized { IfSome result (λ asked. IsSized asked) }
 {
-    if is_dashed(program) || is_dashed(record) {
+    if is_dashed(program) || is_dashed(claim) {
         return None;
     }
     Some(Asked::Watch {
         shown,
         program,
-        record,
+        record: claim,
     })
 }
 
 /// Some lines of the record of two names. None if a name begins with `-`, or the other arguments are not numbers of
 /// lines.
-fn watch_of_four<'a>(
-    program: &'a str,
-    record: &'a str,
-    first: &str,
-    last: &str,
-) -> Option<Asked<'a>>
-    ensures request { option_map request result ≡ watch_of (program.entry.now ∷ record.entry.now ∷ first.now ∷ last.now ∷ []) }
+fn watch_of_four<'a>(program: &'a str, claim: &'a str, first: &str, last: &str) -> Option<Asked<'a>>
+    ensures request { option_map request result ≡ watch_of (program.entry.now ∷ claim.entry.now ∷ first.now ∷ last.now ∷ []) }
     ensures sized { IfSome result (λ asked. IsSized asked) }
 {
-    if is_dashed(program) || is_dashed(record) {
+    if is_dashed(program) || is_dashed(claim) {
         return None;
     }
     lines_of(
         program,
-        record,
+        claim,
         decimal(first.as_bytes()),
         decimal(last.as_bytes()),
     )
