@@ -1,4 +1,4 @@
-//! The words of a transition.
+//! Appends a transition to a text, in the words of a record.
 ghost use Rattle.std.specs.Prelude.{◌≡◌, [], ◌∷◌, ◌++◌, OnOk, map};
 ghost use Rattle.record_writer.specs.RecordText.{label_words, led, object_text, text_at, value_text};
 

@@ -1,4 +1,4 @@
-//! Lines of a record, and what they write.
+//! Appends lines of a record to a text, and what they write.
 ghost use Rattle.std.specs.Prelude.{◌≡◌, ℕ, ◌++◌, ◌∷◌, [], OnOk, decimal};
 ghost use Rattle.std.specs.Fmt.{signed_decimal};
 ghost use Rattle.record_writer.specs.RecordText.{end_words, event_words, full_text, label_words, led, line_text, what_words, wire_words};
