@@ -68,3 +68,6 @@ span() {
     [ "$1" -lt 60 ] || printf '%d min ' $(($1 / 60))
     printf '%d s' $(($1 % 60))
 }
+
+# The libraries that a program needs, by their names.
+needs() { ldd "$1" 2>/dev/null | awk '$1 !~ /^linux-vdso/ { sub(/.*\//, "", $1); printf "%s%s", between, $1; between = ", " }'; }
