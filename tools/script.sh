@@ -61,7 +61,7 @@ find_program() {
     if [ -z "$found" ]; then
         found=$top/$name
         IFS= read -r line <"$found" 2>/dev/null || line=
-        if [ "$line" = '#!/bin/sh' ] && (. "$top/tools/programs.sh" && changed "$name"); then
+        if [ "$line" = '#!/bin/sh' ] && [ -d "$top/crates" ] && (. "$top/tools/programs.sh" && changed "$name"); then
             {
                 echo "tools/${0##*/}: $name is not built from these sources, and to prove and build it takes up to half an hour on four processors, once. Type"
                 echo "    $top/pool; $top/explore"
