@@ -1,8 +1,14 @@
-"""What scripts of this folder share: the program, C programs built with gcc -O2, and measured runs."""
-import collections, os, subprocess, sys
+"""What scripts of this folder share: the program, C programs built with gcc -O2, measured runs, and the history of figures.
+
+Each script that imports this module takes the word `--note`, wherever it stands. It then appends its figures to bench/history.tsv, a row for
+each: date, commit, script, row, value, unit. The first of them is the speed of the machine, in seconds for a loop of Python.
+"""
+import atexit, collections, datetime, functools, os, subprocess, sys, time
 
 HERE = os.path.dirname(os.path.realpath(__file__))
 TIMES = 3
+HISTORY = os.path.join(HERE, 'history.tsv')
+LOOP = '10,000,000 turns of a loop of Python'
 
 # The status, the seconds of the clock and of the processor (user and system), and the peak memory in MiB.
 Run = collections.namedtuple('Run', 'status clock used memory')
@@ -59,4 +65,49 @@ def best_of_three(folder, words, out, err=os.devnull):
 
 
 def load():
-    return 'load %.1f %.1f %.1f on %d processors' % (*os.getloadavg(), os.cpu_count())
+    return 'load %.1f %.1f %.1f on %d processors; %s: %.2f s' % (*os.getloadavg(), os.cpu_count(), LOOP, loop_of_python())
+
+
+@functools.cache
+def loop_of_python():
+    """The seconds of the processor for 10,000,000 turns of an empty loop of Python: how fast the machine is, the least of three."""
+    spent = []
+    for _ in range(TIMES):
+        started = time.process_time()
+        for _ in range(10_000_000):
+            pass
+        spent.append(time.process_time() - started)
+    return min(spent)
+
+
+def note(row, value, unit, digits=3):
+    """Keeps a figure for the history, if the script was called with `--note`."""
+    if NOTES is not None:
+        NOTES.append((row, f'{value:.{digits}f}'.rstrip('0').rstrip('.') if isinstance(value, float) else str(value), unit))
+
+
+def note_run(name, run):
+    """Keeps the time and the memory of a measured run."""
+    note(f'{name}: time', run.used, 's')
+    note(f'{name}: memory', run.memory, 'MiB', 1)
+
+
+def append_notes(script, notes):
+    commit = subprocess.run(['git', '-C', HERE, 'rev-parse', '--short=8', 'HEAD'], stdout=subprocess.PIPE, stderr=subprocess.DEVNULL, text=True).stdout.strip()
+    with open(HISTORY, 'a', encoding='utf-8') as it:
+        for row in notes:
+            it.write('\t'.join([datetime.date.today().isoformat(), commit or 'none', script, *row]) + '\n')
+
+
+def script_name(path):
+    """The name of a script as pages have it: bench/search for bench/search/run."""
+    return os.path.relpath(os.path.realpath(path), os.path.dirname(HERE)).removesuffix('/run')
+
+
+NOTES = None
+if '--note' in sys.argv[1:]:
+    sys.argv.remove('--note')
+    NOTES = []
+    note(LOOP, loop_of_python(), 's')
+    # (a run that was stopped has some figures, and the first line alone is none)
+    atexit.register(lambda: len(NOTES) > 1 and append_notes(script_name(sys.argv[0]), NOTES))
