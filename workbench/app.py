@@ -90,6 +90,13 @@ def number(given, name, least, most, default=None):
     return found
 
 
+def truth(given, name):
+    found = given.get(name, False)
+    if type(found) is not bool:
+        raise Wrong(f"{name} is no truth value.")
+    return found
+
+
 def only(given, *names):
     for it in given:
         if it not in names:
@@ -226,14 +233,12 @@ def make(jobs, shown, programs, tries=None, proved=True):
     @app.post("/api/hand")
     def hand():
         given = body()
-        only(given, "program", "nodes", "lossy", "quantum", "placement", "schedule")
+        only(given, "program", "nodes", "lossy", "quantum", "placement", "schedule", "on")
         program, nodes = text(given, "program"), nodes_of(given)
-        lossy, quantum = given.get("lossy", False), number(given, "quantum", 1, 10000, 20)
-        if type(lossy) is not bool:
-            raise Wrong("lossy is no truth value.")
+        lossy, on, quantum = truth(given, "lossy"), truth(given, "on"), number(given, "quantum", 1, 10000, 20)
         placement, schedule = optional(given, "placement", text), optional(given, "schedule", text)
         with opened() as job:
-            return flask.jsonify(runs.by_hand(job, program, nodes, lossy, quantum, placement, schedule))
+            return flask.jsonify(runs.by_hand(job, program, nodes, lossy, quantum, placement, schedule, on))
 
     @app.post("/api/page")
     def page():
@@ -241,8 +246,8 @@ def make(jobs, shown, programs, tries=None, proved=True):
         only(given, "program", "placement", "schedule", "found", "title", "each")
         program, title = text(given, "program"), text(given, "title", 200, "a run")
         found, placement, schedule = (optional(given, it, text) for it in ("found", "placement", "schedule"))
-        each = given.get("each", False)
-        if found is None and (placement is None or schedule is None) or type(each) is not bool:
+        each = truth(given, "each")
+        if found is None and (placement is None or schedule is None):
             raise Wrong("The request has no run.")
         title = re.sub(r"\s+", " ", title).lstrip("-") or "a run"
         with opened() as job:

@@ -162,7 +162,7 @@ def verdict(job, check, answer, done, graded):
         says = "Not passed: a run comes to an object that waits in a call for good" + (f". It wrote {items}." if items else ", and nothing is written.")
     else:
         says = f"Not passed: a run writes {items}, which is not allowed." if items else "Not passed: a run ends and writes nothing."
-    return {"says": says, "html": page_of(job, check, answer, done.out, "why it is not passed")}
+    return {"says": says, "html": page_of(job, check, answer, done.out, "why it is not passed"), "others": bool(check.classes)}
 
 
 def keep(file, who, name, passed):

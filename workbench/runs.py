@@ -1,12 +1,12 @@
 """Runs of a program: its errors, a placement and a schedule for it, a run that nobody steers, and one whose events a person chooses."""
-import functools
 import re
-import subprocess
+import time
 
 from jobs import Limit
 
 EVENTS = 20000        # the most events of a run that nobody steers
 CHOSEN = 4000         # the most lines of a schedule by hand
+ON = 3                # seconds after which it goes on no more by itself
 SIDES = range(1, 9)
 ROOM = "objects 4096\nframes 16384\ncells 16384\n"   # as much as a node may have
 
@@ -38,7 +38,7 @@ def refused(job, done, *files):
     return found
 
 
-def placement_of(job, canonical, nodes):
+def placement_of(canonical, nodes):
     """A placement of a program for so many nodes, as tools/run makes it: the root class on node 0, a class with a single `new` on a node of its own, the others spread."""
     width, height = mesh_of(nodes)
     made, order, loops = {}, [], 0
@@ -136,7 +136,7 @@ def run(job, program, nodes, seed):
         printed = job.pool("print", "program")
         if printed.status:
             return {"error": refused(job, printed, "program")} if printed.status == 2 else trouble(printed)
-        placement = placement_of(job, printed.out, nodes)
+        placement = placement_of(printed.out, nodes)
     schedule = schedule_of(job, placement, seed)
     job.write("schedule", schedule)
     job.write("placement", placement)
@@ -201,43 +201,44 @@ def could(job, placement, schedule, events, count):
     return found
 
 
-def by_hand(job, program, nodes, lossy, quantum, placement, schedule):
-    """The state after a schedule by hand, and what could be next. Without a placement or a schedule they are begun."""
+def by_hand(job, program, nodes, lossy, quantum, placement, schedule, on):
+    """The state after a schedule by hand, and what could be next. Without a placement or a schedule they are begun. With `on`, it goes on as long as one event alone could be next."""
     job.write("program", program)
     if placement is None:
         printed = job.pool("print", "program")
         if printed.status:
             return {"error": refused(job, printed, "program")} if printed.status == 2 else trouble(printed)
-        placement = placement_of(job, printed.out, nodes)
+        placement = placement_of(printed.out, nodes)
     if schedule is None:
         schedule = f"quantum {quantum}\n" + ("wires lossy\n" if lossy else "")
     elif schedule and not schedule.endswith("\n"):
         schedule += "\n"
-    if schedule.count("\n") > CHOSEN:
-        return {"trouble": f"A schedule by hand has at most {CHOSEN} lines."}
     job.write("placement", placement)
-    job.write("schedule", schedule)
-    done = job.pool("record", "program", "placement", "schedule")
-    if done.status not in (0, 1, 3, 4):
-        fault = refused(job, done, "program", "placement", "schedule")
-        return {"error": fault, "placement": placement, "schedule": schedule} if fault else trouble(done)
-    record = done.out
-    lines = record.splitlines()
-    count, end = len(lines) - 2, lines[-1].split(" ")[1]
-    job.write("record", record)
-    shown = job.explore("watch", "program", "record", *([str(count), str(count)] if count else []))
-    if shown.status not in (0, 1):
-        return trouble(shown)
-    told = told_of(job, record, done.status, end != "schedule")
-    next_events = could(job, placement, schedule, events_of(placement, schedule), count) if end == "schedule" else []
-    if end == "schedule" and not next_events:
+    until, steps = time.monotonic() + ON, 0
+    while True:
+        if schedule.count("\n") > CHOSEN:
+            return {"trouble": f"A schedule by hand has at most {CHOSEN} lines."}
+        job.write("schedule", schedule)
+        done = job.pool("record", "program", "placement", "schedule")
+        if done.status not in (0, 1, 3, 4):
+            fault = refused(job, done, "program", "placement", "schedule")
+            return {"error": fault, "placement": placement, "schedule": schedule} if fault else trouble(done)
+        count, end = len(done.lines) - 2, done.lines[-1].split(" ")[1]
+        choices = could(job, placement, schedule, events_of(placement, schedule), count) if end == "schedule" else []
+        if not on or len(choices) != 1 or choices[0]["effect"].startswith("no room") or steps and time.monotonic() > until:
+            break
+        steps += 1
+        schedule += choices[0]["event"] + "\n"
+    if end == "schedule" and not choices:
         # nothing would do something: one more event shows how the run ends
         job.write("schedule", schedule + "turn 0\n")
         done = job.pool("record", "program", "placement", "schedule")
-        record = done.out
-        told = told_of(job, record, done.status)
-        job.write("record", record)
-        shown = job.explore("watch", "program", "record", *([str(count), str(count)] if count else []))
-    elif end == "schedule":
+        end = done.lines[-1].split(" ")[1]
+    told = told_of(job, done.out, done.status, end != "schedule")
+    if end == "schedule":
         told["says"] = f"After {count} event{'s' * (count != 1)}: choose the next one." if count else "Before the first event: choose one."
-    return {**told, "writes": written(record), "record": record, "placement": placement, "schedule": schedule, "state": shown.out, "could": next_events}
+    job.write("record", done.out)
+    shown = job.explore("watch", "program", "record", *([str(count), str(count)] if count else []))
+    if shown.status not in (0, 1):
+        return trouble(shown)
+    return {**told, "writes": written(done.out), "record": done.out, "placement": placement, "schedule": schedule, "state": shown.out, "could": choices}

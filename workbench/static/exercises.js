@@ -78,7 +78,7 @@ export async function check() {
   if (told.error) showError(told.error);
   if (told.html) {
     out.append(element('p', 'row', button('step through this run', () => showPage(told.html, `${mine.title}: a run that is not allowed`, ''))));
-    out.append(element('p', 'dim', 'Of the program that tries your classes, the run shows each step, and nothing that it would do later.'));
+    if (told.others) out.append(element('p', 'dim', 'Of the program that tries your classes, the run shows each step, and nothing that it would do later.'));
   }
   if (told.passed) {
     kept.set('passed.' + mine.name, 'yes');

@@ -76,9 +76,9 @@ function showEvents(could) {
   if (had) (box.querySelector(`[data-event="${focused}"]`) || box.querySelector('button') || $('hand-undo')).focus();
 }
 
-async function look(next) {
+async function look(next, on = false) {
   $('hand').setAttribute('aria-busy', 'true');
-  const told = await ask('api/hand', { program: text, nodes: Number($('hand-nodes').value), lossy: $('hand-lossy').checked, quantum: Number($('hand-quantum').value), placement, schedule: next });
+  const told = await ask('api/hand', { program: text, nodes: Number($('hand-nodes').value), lossy: $('hand-lossy').checked, quantum: Number($('hand-quantum').value), placement, schedule: next, on });
   $('hand').removeAttribute('aria-busy');
   const none = $('hand-none');
   none.hidden = true;
@@ -93,6 +93,7 @@ async function look(next) {
   $('hand-says').className = 'says';
   showEvents(told.could);
   $('hand-undo').disabled = !events();
+  $('hand-on').disabled = told.could.length !== 1;
   $('hand-waits').replaceChildren(...told.waits.length ? [element('p', 'bad', 'At the end:'), waitsList(told.waits)] : []);
   $('hand-writes').textContent = written(told.writes);
   showState(told.state);
@@ -121,6 +122,7 @@ export function begin() {
     if (counted && Number(more[2]) > 1) all.push(more[1] + (Number(more[2]) - 1));
     look(all.join('\n') + '\n');
   });
+  $('hand-on').addEventListener('click', () => look(schedule, true));
   $('hand-again').addEventListener('click', () => look(lines().filter(isHead).join('\n') + '\n'));
   $('hand-step').addEventListener('click', () => step({ program: text, placement, schedule: last.could.length ? schedule : schedule + 'turn 0\n', title: 'a run by hand' }, '#end'));
   $('hand-use').addEventListener('click', () => look($('hand-schedule').value));

@@ -1,5 +1,5 @@
 // The panes Run and Step: a run that nobody steers, and the page on which a run is stepped through.
-import { $, ask, button, element, show, trouble } from './tools.js';
+import { $, ask, button, element, lastTab, show, trouble } from './tools.js';
 import { goTo, program, showError } from './editor.js';
 
 // The objects that wait for good or met an error, each with a button for its place in the program.
@@ -48,16 +48,15 @@ export async function run() {
 
 // ---------------------------------------------------------------- step
 
-let page = '', title = '';
+let page = '';
 
 // Shows the page of a run in the frame. The frame is a world of its own: it is handed the page, and reads nothing.
 export function showPage(html, named, at = '') {
   page = html;
-  title = named;
   $('step-none').hidden = true;
   $('step-head').hidden = false;
-  $('step-title').textContent = named;
   const old = $('step-frame'), frame = old.cloneNode();
+  frame.title = `${named}, step by step`;
   frame.hidden = false;
   frame.src = 'frame' + at;
   const hand = event => {
@@ -82,6 +81,7 @@ export async function step(run, at = '') {
 export function begin() {
   $('run-form').addEventListener('submit', event => { event.preventDefault(); run(); });
   $('run-seed').addEventListener('input', () => { $('run-random').checked = true; });
+  $('step-back').addEventListener('click', () => show(lastTab(), true));
   $('step-save').addEventListener('click', () => {
     const a = element('a');
     a.href = URL.createObjectURL(new Blob([page], { type: 'text/html' }));

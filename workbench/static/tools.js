@@ -67,7 +67,13 @@ export function trouble(told) {
 
 const tabs = () => [...document.querySelectorAll('#tabs [role=tab]')];
 
+// the pane that was open before Step
+let last = 'run';
+export const lastTab = () => last;
+
 export function show(name, focus = false) {
+  if (shownTab() !== 'step') last = shownTab();
+  document.body.dataset.tab = name;
   for (const tab of tabs()) {
     const chosen = tab.id === 'tab-' + name;
     tab.setAttribute('aria-selected', chosen);
