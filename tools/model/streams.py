@@ -254,7 +254,7 @@ def filled(program, lines):
                 names = sorted(run.configuration.objects)
             elif not is_end and transition_of(line):
                 words = transition_of(line)[0]
-                names = [number_of(word) for word in words[1 : 3 if words[0] == "answer" else 2]]
+                names = [number_of(word) for word in words[1 : 3 if words[0] in ("answer", "return") else 2]]
             settled = {name_of(name): count for name in names for count in [run.settle(name)] if count}
         number += len(settled) + (not is_end)
         places.append((settled, line.rsplit(" ", 1)[0] if is_end else line.split(" ", 1)[1]))

@@ -6,6 +6,8 @@ pub use Rattle.search_laws.proofs.Nameless.{nameless, expression_nameless, list_
 pub use Rattle.search_laws.proofs.NextName.{at_end_by_next}
 -- transitions that need no choice
 pub use Rattle.search_laws.proofs.Commutation.{Alone, commutes}
+pub use Rattle.search_laws.proofs.Earlier.{earlier}
+pub use Rattle.search_laws.proofs.OneLabel.{partner}
 pub use Rattle.search_laws.proofs.ChoiceFreeRuns.{sorted_after, start_sorted, never_stuck_after_settling, never_unfinished_after_settling}
 pub use Rattle.search_laws.proofs.KeptOnTheWay.{never_faulty_after_settling, never_dead_after_settling}
 pub use Rattle.search_laws.proofs.AllLabels.{all_labels}

@@ -12,6 +12,7 @@ pub mod OneLabel
 pub mod PutsCommute
 pub mod Independence
 pub mod Commutation
+pub mod Earlier
 pub mod ChoiceFreeRuns
 pub mod SettledSearch
 pub mod KeptOnTheWay

@@ -2,6 +2,7 @@
 use Rattle.std.proofs.Common.{◌≡◌, refl, sym, ap, ap₂, subst, ◌∙◌, ℕ, ◌<◌, List, [], ◌∷◌, ◌++◌, ◌||◌, replicate, Some, None, Bool, true, false, append_assoc, append-nil, arith}
 use Rattle.run_types.specs.declared.types.What.TheVariants as W
 use Rattle.run_types.specs.declared.types.End.{End}
+use Rattle.run_types.specs.declared.types.End.TheVariants as E
 use Rattle.run_types.specs.declared.types.Line.{Line}
 use Rattle.run_types.specs.declared.types.Line.TheVariants as R
 use Rattle.run_types.specs.declared.verdicts.Redex.{Redex}
@@ -20,8 +21,9 @@ use Rattle.record_check.specs.RecordJudgement.{Judged, LeadsTo, StopsAt, root}
 use Rattle.record_check.proofs.Laws.{labels_split, no_run, same_start}
 use Rattle.stream_check.specs.Followed.{EndsWith}
 use Rattle.stream_check.specs.declared.filling.Filling.{Filling}
-use Rattle.stream_check.specs.Filled.{AllAtRest, AreAtRest, AreNumbered, IsFilled, IsSame, without_local, without_local_of}
-use Rattle.stream_check.specs.FillProgress.{Adds, Begins, Ends, Follows, Grows, Stops, with_done}
+use Rattle.stream_check.specs.Filled.{AllAtRest, AreAtRest, AreInPlace, AreNumbered, HaveNoLocal, IsFilled, IsSame, TakesPart, without_local, without_local_of}
+use Rattle.stream_check.specs.FillProgress.{Adds, Begins, Ends, Follows, Grows, Passes, Stops, with_done}
+use Rattle.stream_check.proofs.FilledPlaces.{all_own, in_place_before, needed_at, own_in_place}
 use Rattle.stream_check.proofs.KeptLines.{kept_end, own_kept, quiet_without, without_split}
 use Rattle.stream_check.proofs.RootOfLines.{root_of_step, rooted}
 
@@ -39,6 +41,11 @@ at_end p ls fs before d (V.Moving o) same t still e rests =
 
 positive : (k n : ℕ) → k < n → 0 < n
 positive k n h = omega (arith, h)
+
+still_quiet : (k : ℕ) (end : End) → is_quiet_end (R.End (with_done k end)) ≡ is_quiet_end (R.End end)
+still_quiet k (E.Quiet done) = refl
+still_quiet k (E.Schedule done) = refl
+still_quiet k (E.Full kind node done) = refl
 
 is_quiet : (b : Bool) → (b || false) ≡ true → b ≡ true
 is_quiet true h = refl
@@ -75,12 +82,17 @@ module _ (ls : List Line) (f0 : Filling) (b : Begins ls f0) where
       subst (λ (xs : List Line). AreNumbered 0 xs) (ap (λ xs. xs ++ (filled ++ more)) (sym (front f kept g)) ∙ sym (append_assoc f.lines filled more))
       (subst (λ (k : ℕ). AreNumbered k (g.added ++ (filled ++ more))) b.first (g.adds.numbered (filled ++ more) h))
 
+  -- and are in place
+  places_on : (f : Filling) (kept : List Line) (w : Passes f0 f kept) (filled more : List Line) → AreInPlace (filled ++ more) → AreInPlace ((f.lines ++ filled) ++ more)
+  places_on f kept w filled more h =
+      subst (λ (xs : List Line). AreInPlace xs) (ap (λ xs. xs ++ (filled ++ more)) (sym (front f kept w.grows)) ∙ sym (append_assoc f.lines filled more)) (w.in_place (filled ++ more) h)
+
   -- a line is impossible
   pub stopped : (f g h : Filling) (l : Line) (rest added : List Line) (redex : Redex) → Follows ls (l ∷ rest) f0 f → Stops f g l redex → Adds g h added (without_local rest)
-      → IsFilled p ls h.lines (V.No g.last redex)
-  stopped f g h l rest added redex w s a =
+      → HaveNoLocal added → IsFilled p ls h.lines (V.No g.last redex)
+  stopped f g h l rest added redex w s a own =
       let kept = w.kept in
-      let gr = w.grows in
+      let gr = w.passes.grows in
       let before = f.lines ++ s.filled in
       let its = R.Event g.last s.event (W.Step s.label s.times) in
       let whole : h.lines ≡ before ++ its ∷ added = a.lines ∙ ap (λ xs. xs ++ added) s.lines ∙ append_assoc before (its ∷ []) added in
@@ -91,6 +103,11 @@ module _ (ls : List Line) (f0 : Filling) (b : Begins ls f0) where
       ∙ w.all in
       let behind : AreNumbered g.last added = subst (λ (xs : List Line). AreNumbered g.last xs) (append-nil added) (a.numbered [] tt) in
       let numbered : AreNumbered 0 h.lines = subst (λ (xs : List Line). AreNumbered 0 xs) (sym whole) (numbered_on f kept s.filled (its ∷ added) gr (s.numbered added behind)) in
+      let in_place : AreInPlace h.lines =
+      subst (λ (xs : List Line). AreInPlace xs) (sym whole)
+      (places_on f kept w.passes s.filled (its ∷ added)
+      (in_place_before (λ q. TakesPart q s.label) s.filled (its ∷ added) s.fills (λ q n. needed_at its added s.own q n)
+      (own_in_place its added s.own (all_own added own)))) in
       let lead : run p c0 (labels before) ≡ Some s.between = leads_on f kept s.filled s.between gr s.leads in
       let origin : root h.lines ≡ root (without_local ls) =
       ap root whole
@@ -112,13 +129,14 @@ module _ (ls : List Line) (f0 : Filling) (b : Begins ls f0) where
             ∙ subst (λ (t : ProgramTree). run t s.between (replicate s.stops.made s.label) ≡ Some (configuration_of g.plain)) gr.program s.stops.leads;
         impossible = subst (λ (t : ProgramTree). transition t (configuration_of g.plain) s.label ≡ None) gr.program s.stops.impossible;
       } in (
-        record { same = same; numbered = numbered },
+        record { says = record { same = same; rooted = origin }; in_place = in_place; numbered = numbered },
         (
           configuration_of g.plain,
           s.label,
           stop,
           subst (λ (t : ProgramTree). Shows t (configuration_of g.plain) (agent s.label) redex) gr.program s.stops.shows,
           s.own,
+          own,
           λ none. subst (λ (t : ProgramTree). AreAtRest t before (configuration_of g.plain) s.label) gr.program (s.rests none),
         ),
       )
@@ -130,7 +148,7 @@ module _ (ls : List Line) (f0 : Filling) (b : Begins ls f0) where
   pub ended : (f g : Filling) (end : End) (v : Verdict) → Follows ls (R.End end ∷ []) f0 f → Ends f g end v → IsFilled p ls g.lines v
   ended f g end v w e =
       let kept = w.kept in
-      let gr = w.grows in
+      let gr = w.passes.grows in
       let before = f.lines ++ e.filled in
       let its = R.End (with_done e.last end) in
       let d = configuration_of g.plain in
@@ -139,6 +157,10 @@ module _ (ls : List Line) (f0 : Filling) (b : Begins ls f0) where
       ∙ ap₂ (λ xs ys. xs ++ ys) (kept_on f kept e.filled gr e.silent) (kept_end e.last end)
       ∙ w.all in
       let numbered : AreNumbered 0 g.lines = subst (λ (xs : List Line). AreNumbered 0 xs) (sym e.lines) (numbered_on f kept e.filled (its ∷ []) gr e.numbered) in
+      let in_place : AreInPlace g.lines =
+      subst (λ (xs : List Line). AreInPlace xs) (sym e.lines)
+      (places_on f kept w.passes e.filled (its ∷ [])
+      (in_place_before (λ q. is_quiet_end (R.End end) ≡ true) e.filled (its ∷ []) e.fills (λ q n. still_quiet e.last end ∙ n) tt)) in
       let lead : run p c0 (labels before) ≡ Some d = leads_on f kept e.filled d gr e.leads in
       let origin : root g.lines ≡ root (without_local ls) =
       ap root e.lines ∙ rooted p (root (without_local ls)) c0 d before (its ∷ []) b.starts lead (ap root (sym same) ∙ ap (λ xs. root (without_local xs)) e.lines) refl in
@@ -147,5 +169,5 @@ module _ (ls : List Line) (f0 : Filling) (b : Begins ls f0) where
       let judged : Judged p g.lines v =
       subst (λ (t : ProgramTree). Judged t g.lines v) gr.program (e.judged (subst (λ (t : ProgramTree). LeadsTo t g.lines d) (sym gr.program) led)) in
       let says : ends_quiet g.lines ≡ ends_quiet (R.End end ∷ []) = sym (quiet_without g.lines) ∙ (ap ends_quiet same ∙ (quiet_without ls ∙ sym w.quiet)) in
-      at_end p ls g.lines before d v (record { same = same; numbered = numbered }) led judged (record { end = with_done e.last end; whole = e.lines })
+      at_end p ls g.lines before d v (record { says = record { same = same; rooted = origin }; in_place = in_place; numbered = numbered }) led judged (record { end = with_done e.last end; whole = e.lines })
       (λ h. subst (λ (t : ProgramTree). AllAtRest t before d) gr.program (e.rests (is_quiet (is_quiet_end (R.End end)) (sym says ∙ h))))

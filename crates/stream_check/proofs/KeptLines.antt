@@ -11,8 +11,8 @@ use Rattle.run_types.specs.declared.types.Line.TheVariants as R
 use Rattle.mesh_semantics.specs.Record.{EndsOnce, ends_quiet, labels, labels_of}
 use Rattle.run_record.specs.Records.{done_of}
 use Rattle.record_check.proofs.Laws.{labels_split}
-use Rattle.stream_check.specs.Filled.{AreNumbered, is_local, unnumbered_end, without_local, without_local_of}
-use Rattle.stream_check.specs.FillProgress.{number_after, own_labels, renumbered, shows_local, with_done}
+use Rattle.stream_check.specs.Filled.{AreNumbered, is_local, shows_local, unnumbered_end, without_local, without_local_of}
+use Rattle.stream_check.specs.FillProgress.{number_after, own_labels, renumbered, with_done}
 
 -- the number of an end line
 same_end : (k : ℕ) (e : End) → unnumbered_end (with_done k e) ≡ unnumbered_end e

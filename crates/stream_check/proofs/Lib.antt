@@ -7,8 +7,12 @@ pub mod OneText
 pub mod ReadIsFollowed
 pub mod KeptLines
 pub mod LocalRuns
+pub mod FilledPlaces
 pub mod GrownLines
 pub mod RootOfLines
 pub mod LoopSteps
 pub mod FilledVerdict
+pub mod FilledReads
+pub mod AnyFilling
+pub mod NoOtherFilling
 pub mod Laws

@@ -28,7 +28,7 @@ still_none p c d q e h = subst (λ (r : Option Object). (r >>= λ x. local_step 
     by None i = refl
     by (Some x) i = on (local_step x (action p q x)) i
 
-kept_once : (p : ProgramTree) (c d : Configuration) (o q : ℕ) → transition p c (L.Local o) ≡ Some d → transition p c (L.Local q) ≡ None → transition p d (L.Local q) ≡ None
+pub kept_once : (p : ProgramTree) (c d : Configuration) (o q : ℕ) → transition p c (L.Local o) ≡ Some d → transition p c (L.Local q) ≡ None → transition p d (L.Local q) ≡ None
 kept_once p c d o q h n = by (decide q o)
   where
     by : (q ≡ o) ⊎ (q ≢ o) → transition p d (L.Local q) ≡ None

@@ -1,5 +1,5 @@
 -- The root of lines that lead on from the start is the object of the first label that is not local.
-use Rattle.std.proofs.Common.{◌≡◌, refl, sym, ap, ◌∙◌, ℕ, zero, suc, ◌<◌, List, [], ◌∷◌, ◌++◌, replicate, Some, false, arith}
+use Rattle.std.proofs.Common.{◌≡◌, refl, sym, ap, subst, ◌∙◌, ℕ, zero, suc, ◌<◌, List, [], ◌∷◌, ◌++◌, replicate, Some, false, arith}
 use Rattle.run_types.specs.declared.types.Label.{Label}
 use Rattle.run_types.specs.declared.types.Label.TheVariants as L
 use Rattle.run_types.specs.declared.types.What.TheVariants as W
@@ -15,9 +15,9 @@ use Rattle.pool_relation.specs.Progress.{agent}
 use Rattle.pool_relation.specs.Transition.{last_class, new_object, run, start, transition}
 use Rattle.pool_relation.proofs.Laws.{not_there, runs, there}
 use Rattle.mesh_semantics.specs.Record.{labels}
+use Rattle.reachability.specs.Search.{IsInOrder}
 use Rattle.record_check.specs.RecordJudgement.{first_agent, root}
-use Rattle.stream_check.specs.Filled.{is_local, without_local, without_local_of}
-use Rattle.stream_check.specs.FillProgress.{shows_local}
+use Rattle.stream_check.specs.Filled.{is_local, shows_local, without_local, without_local_of}
 use Rattle.stream_check.proofs.KeptLines.{own_kept}
 
 begins : (p : ProgramTree) (n : ℕ) (c : Configuration) → start p n ≡ Some c → (x : Object) × (c ≡ alone n x)
@@ -68,3 +68,7 @@ first_own l n event lab times is own some rest =
     by : (t : ℕ) → (t ≡ 0 → ⊥) → first_agent ((replicate t lab ++ []) ++ rest) ≡ agent lab
     by zero h = absurd (h refl)
     by (suc k) h = refl
+
+-- the start has its maps in order
+pub started_in_order : (p : ProgramTree) (n : ℕ) (c : Configuration) → start p n ≡ Some c → IsInOrder c
+started_in_order p n c e = let b = begins p n c e in subst IsInOrder (sym b.1) (refl, refl)

@@ -18,7 +18,7 @@ use Rattle.record_check.specs.RecordJudgement.{LeadsTo, Judged, root}
 use Rattle.record_check.specs.Verdicts.{StopsAfter}
 use Rattle.stream_check.specs.Stream.{next_number}
 use Rattle.stream_check.specs.declared.filling.Filling.{Filling}
-use Rattle.stream_check.specs.Filled.{AllAtRest, AreAtRest, AreNumbered, IsFull, is_local, without_local, without_local_of}
+use Rattle.stream_check.specs.Filled.{AllAtRest, AreAtRest, AreInPlace, AreNumbered, HaveNoLocal, IsFilledIn, IsFull, TakesPart, is_local, without_local, without_local_of}
 
 -- an end line with this number
 abbrev pub with_done : ℕ → End → End
@@ -36,19 +36,15 @@ abbrev pub number_after : ℕ → Line → ℕ
 number_after last (R.Event n e what) = next_number last
 number_after last (R.End end) = last
 
--- whether a line shows local transitions
-abbrev pub shows_local : Line → Bool
-shows_local (R.Event n e (W.Step lab times)) = is_local lab
-shows_local _ = false
-
 -- the labels of lines but for those of local transitions
 abbrev pub own_labels : List Line → List Label
 own_labels [] = []
 own_labels (l ∷ ls) = labels (without_local_of l) ++ own_labels ls
 
--- the caller that is answered
+-- the caller, if the label is an answer or a return
 abbrev pub caller_of : Label → Option ℕ
 caller_of (L.Answer b o m args) = Some o
+caller_of (L.Return b o v) = Some o
 caller_of _ = None
 
 -- the number is one of these
@@ -62,6 +58,21 @@ pub record Adds (f g : Filling) (added kept : List Line) : Type 0 where
   pub same : without_local added ≡ kept
   pub numbered : (more : List Line) → AreNumbered g.last more → AreNumbered f.last (added ++ more)
 
+-- a line that shows local transitions of an object with this property, filled in
+pub record IsFillOf (P : ℕ → Type 0) (l : Line) : Type 0 where
+  pub object : ℕ
+  pub number : ℕ
+  pub event : Event
+  pub times : ℕ
+  pub is : l ≡ R.Event number event (W.Step (L.Local object) times)
+  pub filled : IsFilledIn object event times
+  pub its : P object
+
+-- each of these lines is one
+abbrev pub AreFillsOf : (ℕ → Type 0) → List Line → Type 0
+AreFillsOf P [] = Unit {0}
+AreFillsOf P (l ∷ ls) = IsFillOf P l × AreFillsOf P ls
+
 -- lines were added whose labels lead from the one configuration to the other
 pub record Grows (f g : Filling) (kept : List Line) : Type 0 where
   pub program : program_tree g.plain ≡ program_tree f.plain
@@ -73,6 +84,7 @@ pub record Grows (f g : Filling) (kept : List Line) : Type 0 where
 -- the local transitions of an object were added, all or as many as may be; no object that had none has one now
 pub record Fills (f g : Filling) (object : ℕ) (most : Bool) : Type 0 where
   pub grows : Grows f g []
+  pub fills : AreFillsOf (λ q. q ≡ object) grows.added
   pub full : most ≡ true → IsFull g.lines object
   pub rests : most ≡ false → transition (program_tree f.plain) (configuration_of g.plain) (L.Local object) ≡ None
   pub keeps : (q : ℕ) → transition (program_tree f.plain) (configuration_of f.plain) (L.Local q) ≡ None → transition (program_tree f.plain) (configuration_of g.plain) (L.Local q) ≡ None
@@ -80,6 +92,7 @@ pub record Fills (f g : Filling) (object : ℕ) (most : Bool) : Type 0 where
 -- local transitions of the objects that take part in a transition were added
 pub record Prepares (f g : Filling) (lab : Label) : Type 0 where
   pub grows : Grows f g []
+  pub fills : AreFillsOf (λ q. TakesPart q lab) grows.added
   pub rests : AreAtRest (program_tree f.plain) g.lines (configuration_of g.plain) lab
 
 -- the objects that must be at rest where this line's transition begins
@@ -87,25 +100,39 @@ abbrev pub RestsFor : Filling → Filling → Line → Type 0
 RestsFor f g (R.Event n e (W.Step lab times)) = AreAtRest (program_tree f.plain) g.lines (configuration_of g.plain) lab
 RestsFor f g _ = Unit {0}
 
+-- the object takes part in the transition of this line
+abbrev pub IsNeededBy : Line → ℕ → Type 0
+IsNeededBy (R.Event n e (W.Step lab times)) q = TakesPart q lab
+IsNeededBy _ q = ⊥
+
 -- local transitions were added before a line
 pub record Readies (f g : Filling) (l : Line) : Type 0 where
   pub grows : Grows f g []
+  pub fills : AreFillsOf (IsNeededBy l) grows.added
   pub rests : RestsFor f g l
 
 -- local transitions of all objects were added
 pub record Settles (f g : Filling) : Type 0 where
   pub grows : Grows f g []
+  pub fills : AreFillsOf (λ q. Unit {0}) grows.added
   pub rests : AllAtRest (program_tree f.plain) g.lines (configuration_of g.plain)
 
 -- local transitions of all objects were added if the end is quiet
 pub record Quiets (f g : Filling) (end : End) : Type 0 where
   pub grows : Grows f g []
+  pub fills : AreFillsOf (λ q. is_quiet_end (R.End end) ≡ true) grows.added
   pub rests : is_quiet_end (R.End end) ≡ true → AllAtRest (program_tree f.plain) g.lines (configuration_of g.plain)
 
 -- each object has no local transition, or is among the rest
 pub record Settling (rest : List ℕ) (f g : Filling) : Type 0 where
   pub grows : Grows f g []
+  pub fills : AreFillsOf (λ q. Unit {0}) grows.added
   pub rests : (q : ℕ) → (transition (program_tree f.plain) (configuration_of g.plain) (L.Local q) ≡ None) ⊎ IsAmong q rest
+
+-- a line with its local transitions was added, and what was filled in is in place before all that comes behind it
+pub record Passes (f g : Filling) (kept : List Line) : Type 0 where
+  pub grows : Grows f g kept
+  pub in_place : (more : List Line) → AreInPlace more → AreInPlace (grows.added ++ more)
 
 -- the lines before the rest were copied, but for those of local transitions
 pub record Copies (lines rest : List Line) (f g : Filling) : Type 0 where
@@ -113,6 +140,7 @@ pub record Copies (lines rest : List Line) (f g : Filling) : Type 0 where
   pub added : List Line
   pub kept : List Line
   pub adds : Adds f g added kept
+  pub own : HaveNoLocal added
   pub all : kept ++ without_local rest ≡ without_local lines
 
 -- local transitions and then a line with an impossible transition were added
@@ -122,6 +150,7 @@ pub record Stops (f g : Filling) (l : Line) (redex : Redex) : Type 0 where
   pub silent : without_local filled ≡ []
   pub event : Event
   pub label : Label
+  pub fills : AreFillsOf (λ q. TakesPart q label) filled
   pub times : ℕ
   pub own : is_local label ≡ false
   pub kept : without_local_of l ≡ R.Event 0 event (W.Step label times) ∷ []
@@ -136,6 +165,7 @@ pub record Stops (f g : Filling) (l : Line) (redex : Redex) : Type 0 where
 pub record Ends (f g : Filling) (end : End) (v : Verdict) : Type 0 where
   pub filled : List Line
   pub silent : without_local filled ≡ []
+  pub fills : AreFillsOf (λ q. is_quiet_end (R.End end) ≡ true) filled
   pub last : ℕ
   pub lines : g.lines ≡ (f.lines ++ filled) ++ R.End (with_done last end) ∷ []
   pub numbered : AreNumbered f.last (filled ++ R.End (with_done last end) ∷ [])
@@ -154,7 +184,7 @@ pub record Begins (lines : List Line) (f : Filling) : Type 0 where
 -- the lines before the rest were filled, and the end line is among the rest
 pub record Follows (lines rest : List Line) (f g : Filling) : Type 0 where
   pub kept : List Line
-  pub grows : Grows f g kept
+  pub passes : Passes f g kept
   pub all : kept ++ without_local rest ≡ without_local lines
   pub ends : EndsOnce rest
   pub quiet : ends_quiet rest ≡ ends_quiet lines

@@ -19,8 +19,8 @@ pub struct Filled {
 }
 
 /// Fills in local transitions, and leaves out those that the record has. Before each other transition its agent makes
-/// its local transitions, and before an answer the caller too. Before a quiet end all objects do. An object makes at
-/// most 1,000,000 at one place. After an impossible line nothing is filled in. Events are numbered from 1.
+/// its local transitions, and before an answer or a return the caller too. Before a quiet end all objects do. An object
+/// makes at most 1,000,000 at one place. After an impossible line nothing is filled in. Events are numbered from 1.
 /// Requires one end line, the last.
 /// An error means out of memory, or that an object would have more than 1,000,000 methods under way.
 /// The time is proportional to the lines and to the transitions that the filled lines show.

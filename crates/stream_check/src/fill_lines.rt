@@ -3,8 +3,8 @@ ghost use Rattle.std.specs.Prelude.{◌≡◌, ◌++◌, List, [], IfSome, IfNon
 ghost use Rattle.run_types.specs.declared.types.Label.{Label};
 ghost use Rattle.mesh_semantics.specs.Record.{labels};
 ghost use Rattle.record_check.specs.RecordJudgement.{first_agent};
-ghost use Rattle.stream_check.specs.Filled.{without_local_of};
-ghost use Rattle.stream_check.specs.FillProgress.{caller_of, own_labels, shows_local, with_done};
+ghost use Rattle.stream_check.specs.Filled.{shows_local, without_local_of};
+ghost use Rattle.stream_check.specs.FillProgress.{caller_of, own_labels, with_done};
 
 use pool_semantics::agent;
 use run_types::{End, Label, Line, What};
@@ -36,12 +36,12 @@ pub fn shows_local(line: &Line) -> bool
     )
 }
 
-/// The caller that the transition answers. None if it is no answer.
+/// The caller of an answer or a return. None for other labels.
 pub fn caller_of(label: &Label) -> Option<u32>
     ensures { result ≡ caller_of label.now }
 {
     match label {
-        Label::Answer { caller, .. } => Some(*caller),
+        Label::Answer { caller, .. } | Label::Return { caller, .. } => Some(*caller),
         _ => None,
     }
 }

@@ -5,8 +5,8 @@ ghost use Rattle.pool_relation.specs.Transition.{run};
 ghost use Rattle.mesh_semantics.specs.Record.{EndsOnce, labels_of};
 ghost use Rattle.pool_semantics.specs.PlainOf.{configuration_of, program_tree, is_spent};
 ghost use Rattle.record_check.specs.Verdicts.{StopsLine};
-ghost use Rattle.stream_check.specs.Filled.{IsFilled, without_local, without_local_of};
-ghost use Rattle.stream_check.specs.FillProgress.{Adds, Begins, Ends, Fills, Grows, Prepares, Quiets, Readies, Settles, Stops, number_after, renumbered};
+ghost use Rattle.stream_check.specs.Filled.{HaveNoLocal, IsFilled, without_local, without_local_of};
+ghost use Rattle.stream_check.specs.FillProgress.{Adds, Begins, Ends, Fills, Passes, Prepares, Quiets, Readies, Settles, Stops, number_after, renumbered};
 
 use crate::fill_lines::{caller_of, shows_local, with_done};
 use crate::lines::{is_quiet, next_number};
@@ -51,7 +51,7 @@ impl<'a> Filling<'a> {
 
     /// Appends the lines, but for those of local transitions. An error means out of memory.
     fn push_all(&mut self, lines: &[Line]) -> Result<(), AllocError>
-        ensures adds { OnOk result ((added : List Line) × Adds self.old self.new added (without_local lines.now)) }
+        ensures adds { OnOk result ((added : List Line) × Adds self.old self.new added (without_local lines.now) × HaveNoLocal added) }
         ensures plain { self.new.plain ≡ self.old.plain }
     {
         for line in lines {
@@ -103,11 +103,11 @@ impl<'a> Filling<'a> {
         ensures { OnOk result (Readies self.old self.new line.now) }
     {
         match line {
-            Line::Event {
-                what: What::Step { label, .. },
-                ..
-            } => self.fill_parties(label),
-            _ => Ok(()),
+            Line::Event { what, .. } => match what {
+                What::Step { label, .. } => self.fill_parties(label),
+                _ => Ok(()),
+            },
+            Line::End(_) => Ok(()),
         }
     }
 
@@ -155,7 +155,7 @@ impl<'a> Filling<'a> {
     /// Fills a line. Returns the redex of the object whose transition is impossible, if one is.
     /// An error means out of memory.
     fn follow(&mut self, line: &Line) -> Result<Option<Redex>, AllocError>
-        ensures grows { IfOk result (λ r. IfNone r (Grows self.old self.new (without_local_of line.now))) }
+        ensures grows { IfOk result (λ r. IfNone r (Passes self.old self.new (without_local_of line.now))) }
         ensures stops { IfOk result (λ r. IfSome r (λ redex. Stops self.old self.new line.now redex)) }
     {
         if shows_local(line) {

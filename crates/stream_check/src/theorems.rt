@@ -1,9 +1,15 @@
 //! Laws of streams. Each is the contract of a function whose body does nothing.
-ghost use Rattle.std.specs.Prelude.{◌≡◌, ◌++◌, List, Option, Some, None, true};
+ghost use Rattle.std.specs.Prelude.{◌≡◌, ◌≤◌, ◌++◌, length, List, Option, Some, None, true};
 ghost use Rattle.text_scan.specs.Text.{Text};
 ghost use Rattle.pool_syntax.specs.Terms.{ProgramTree};
 ghost use Rattle.run_record.specs.declared.fault.RecordFault.{RecordFault};
 ghost use Rattle.stream_check.specs.declared.judge.Stop.{Stop};
+ghost use Rattle.run_types.specs.declared.types.Line.{Line};
+ghost use Rattle.run_types.specs.declared.verdicts.Verdict.{Verdict};
+ghost use Rattle.run_types.specs.declared.verdicts.Verdict.TheVariants as V;
+ghost use Rattle.record_check.specs.RecordJudgement.{IsRunOf};
+ghost use Rattle.run_record.specs.Readable.{IsRecord};
+ghost use Rattle.stream_check.specs.Filled.{HasFull, IsFilled, SaysTheSame};
 ghost use Rattle.stream_check.specs.Followed.{IsFollowed};
 ghost use Rattle.stream_check.specs.Stream.{has_end, stream_fault, stream_lines};
 
@@ -23,3 +29,14 @@ pub fn what_is_followed_is_one()
 {
     a_record_has_one_verdict();
 }
+
+/// If the verdict on a filled record is no `yes`, no record that says the same is a run, whatever local transitions it
+/// has, unless one object has 1,000,000 local transitions at one place.
+pub fn no_other_filling_is_a_run()
+    ensures { (p : ProgramTree) (names : List Text) (ls fs gs : List Line) (v : Verdict) → IsRecord names ls → IsFilled p ls fs v → (v ≡ V.Yes → ⊥) → SaysTheSame ls gs → IsRunOf p gs → HasFull fs }
+{}
+
+/// A filled record of at most 2,000,000 events is a record that can be read.
+pub fn a_filled_record_is_a_record()
+    ensures { (p : ProgramTree) (names : List Text) (ls fs : List Line) (v : Verdict) → IsRecord names ls → IsFilled p ls fs v → length fs ≤ 2000001 → IsRecord names fs }
+{}

@@ -4,7 +4,7 @@ use Rattle.pool_relation.specs.Transition.{transition}
 use Rattle.pool_semantics.specs.PlainOf.{configuration_of, program_tree}
 use Rattle.stream_check.specs.FillProgress.{Fills, IsAmong}
 use Rattle.stream_check.proofs.LocalRuns.{among_all}
-use Rattle.stream_check.proofs.LoopSteps.{settled_full, settling_first, settling_more}
+use Rattle.stream_check.proofs.LoopSteps.{settled_all, settled_full, settling_first, settling_more}
 use Rattle.stream_check.proofs.filling.Filling.fill_all.Goals as goal
 
 pub loop-object-init : goal.loop-object-init
@@ -29,3 +29,8 @@ loop-object-preserved c =
     let os = c.deref-object-items.result.now in
     settling_more os l.object-index c.args.self.now l.self c.fill.new.self c.loop-object-test.true l.invariant
     (subst (λ (b : Bool). Fills l.self c.fill.new.self (get_or os l.object-index 0) b) c.if-branch.false c.in_ok-fill.ensures)
+
+pub returns : goal.returns
+returns c =
+    let l = c.loop-object in
+    settled_all c.deref-object-items.result.now l.object-index c.args.self.now l.self c.loop-object-test.false l.invariant

@@ -4,9 +4,9 @@ use Rattle.std.proofs.result.Match.{if_ok_then}
 use Rattle.run_types.specs.declared.types.Line.{Line}
 use Rattle.run_types.specs.declared.verdicts.Redex.{Redex}
 use Rattle.stream_check.specs.Filled.{without_local, without_local_of}
-use Rattle.stream_check.specs.FillProgress.{Adds, Grows, Stops}
+use Rattle.stream_check.specs.FillProgress.{Adds, Passes, Stops}
 use Rattle.stream_check.proofs.FilledVerdict.{ended, stopped}
-use Rattle.stream_check.proofs.LoopSteps.{follows_at, follows_end, follows_more, rest_of}
+use Rattle.stream_check.proofs.LoopSteps.{follows_at, follows_end, follows_first, follows_more, rest_of}
 use Rattle.stream_check.proofs.filling.Filling.judge.Goals as goal
 
 pub returns-in-End : goal.returns-in-End
@@ -29,7 +29,7 @@ returns-in-Some c =
     let a = c.in_ok-push_all.ensures.adds in
     stopped ls f0 c.requires.begun l.self g h line (drop (l.place + 1) ls) a.0 c.in-Some.redex (follows_at ls l.place line f0 l.self c.loop-place-test.true c.index-lines-place.is l.invariant)
     (subst (λ (r : Option Redex). IfSome r (λ redex. Stops l.self g line redex)) c.in-Some.is c.in_ok-redex.ensures.stops)
-    (subst (λ (xs : List Line). Adds g h a.0 (without_local xs)) (rest_of ls (l.place + 1)) a.1)
+    (subst (λ (xs : List Line). Adds g h a.0 (without_local xs)) (rest_of ls (l.place + 1)) a.1) a.2
 
 pub loop-place-preserved : goal.loop-place-preserved
 loop-place-preserved c =
@@ -37,4 +37,7 @@ loop-place-preserved c =
     let line = c.index-lines-place.result in
     let g = c.follow.new.self in
     follows_more c.args.lines.now l.place line c.args.self.now l.self g c.loop-place-test.true c.index-lines-place.is c.in_default.not-End l.invariant
-    (subst (λ (r : Option Redex). IfNone r (Grows l.self g (without_local_of line))) c.in_default-2.is c.in_ok-redex.ensures.grows)
+    (subst (λ (r : Option Redex). IfNone r (Passes l.self g (without_local_of line))) c.in_default-2.is c.in_ok-redex.ensures.grows)
+
+pub loop-place-init : goal.loop-place-init
+loop-place-init c = follows_first c.args.lines.now c.args.self.now c.requires.ended

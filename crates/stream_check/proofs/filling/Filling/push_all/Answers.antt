@@ -15,7 +15,7 @@ loop-line-preserved c =
       | then-not-shows_local+in_ok-push w ↦
           let pushed = w.in_ok-push.ensures in
           subst (λ (x : Filling). Copies ls (drop (i + 1) ls) f x) (sym w.self-is)
-          (copies_more ls i c.line-item.result f l.self w.push.new.self c.loop-line-test.true c.line-item.is l.invariant pushed.plain pushed.lines pushed.last)
+          (copies_more ls i c.line-item.result f l.self w.push.new.self c.loop-line-test.true c.line-item.is l.invariant (sym c.shows_local.ensures ∙ w.if-not-shows_local.true) pushed.plain pushed.lines pushed.last)
       | else-not-shows_local w ↦
           subst (λ (x : Filling). Copies ls (drop (i + 1) ls) f x) (sym w.self-is)
           (copies_past ls i c.line-item.result f l.self c.loop-line-test.true c.line-item.is l.invariant (sym c.shows_local.ensures ∙ w.if-not-shows_local.false))
