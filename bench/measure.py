@@ -74,8 +74,8 @@ def loop_of_python():
     spent = []
     for _ in range(TIMES):
         started = time.process_time()
-        for _ in range(10_000_000):
-            pass
+        # (outside of a function, as in a script of one line)
+        exec('for i in range(10_000_000): pass', {})
         spent.append(time.process_time() - started)
     return min(spent)
 
