@@ -270,6 +270,7 @@ def make(jobs, shown, programs, tries=None, proved=True):
             except Gone:
                 return
             finally:
+                told.close()   # (it ends the program)
                 job.close()
         response = flask.Response(lines(), mimetype="application/x-ndjson")
         response.headers["X-Accel-Buffering"] = "no"

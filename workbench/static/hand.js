@@ -107,10 +107,13 @@ const isHead = line => /^\s*(quantum|wires|#)/.test(line);
 const events = () => schedule !== null && lines().some(it => !isHead(it));
 const choose = event => look(schedule + event + '\n');
 
+export const stale = () => { $('hand-stale').hidden = text === '' || text === program(); };
+
 export function beginRun(own = null) {
   text = program();
   placement = own;
   schedule = null;
+  stale();
   return look(null);
 }
 

@@ -167,7 +167,7 @@ export function begin() {
     pre.tabIndex = 0;
     const act = button('put this into the editor', () => { leave(); setText(example); show('run'); editor.focus(); });
     act.setAttribute('aria-label', `put the program of “${title}” into the editor`);
-    pane.append(pre, element('p', 'try', act));
+    pane.append(pre, element('p', 'try row', act, element('span', 'dim', 'Control and Z brings your program back.')));
   }
   pane.append(element('h2', '', 'Events'), element('p', '', 'An object is named by its node and its number there: 0.1 is object 1 of node 0. The lines of a record have these words.'));
   const table = element('table');

@@ -80,6 +80,7 @@ async function start() {
   onChange(() => {
     $('linked').textContent = '';
     $('link-label').hidden = true;
+    hand.stale();
     clearTimeout(waiting);
     waiting = setTimeout(address, 600);
   });

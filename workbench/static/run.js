@@ -42,7 +42,8 @@ export async function run() {
   writes.tabIndex = 0;
   out.replaceChildren(element('h3', '', 'written'), writes, element('p', 'says', told.says));
   if (bad) out.append(element('p', 'bad', told.status === 1 || told.waits.some(it => it.text.startsWith('deadlock')) || told.waits.some(it => /waits for good/.test(it.text)) ? 'At the end:' : 'Note:'), waitsList(told.waits));
-  out.append(element('p', 'row', button('step through it', () => step({ program: text, placement: told.placement, schedule: told.schedule, title: 'a run' }))));
+  out.append(element('p', 'row', button('step through it', () => step({ program: text, placement: told.placement, schedule: told.schedule, title: 'a run' })),
+    button('with each local step', () => step({ program: text, placement: told.placement, schedule: told.schedule, title: 'a run', each: true }))));
   out.append(details('the record', told.record), details('the objects at the end', told.report), details('the placement', told.placement), details('the schedule', told.schedule));
 }
 
