@@ -1,0 +1,4 @@
+pub mod Halves
+pub mod ReadBack
+pub mod Rows
+pub mod Laws

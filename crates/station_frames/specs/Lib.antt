@@ -1,0 +1,2 @@
+-- Internal: what it does not.
+pub mod Bytes
