@@ -144,16 +144,17 @@ def verdict(job, check, answer, done, graded):
     """What is told where the answer does not pass; nothing where this call lets it pass."""
     if done.status == 2:
         return misfit(job, check, answer, done)
-    if done.status == 0 and graded and not any(line.startswith("wrote ") for line in done.lines) or done.status == 3 and done.lines[-1:] == ["no run ends"]:
+    last = done.lines[-1].split(" ") if done.lines else ["", "", ""]
+    if done.status == 3 and last[1] == "running" or done.status == 0 and graded and not any(line.startswith("wrote ") for line in done.lines):
         return {"says": "No run of your program ends: some object is busy for ever."}
     if done.status == 0:
         return None
     if done.status == 3:
-        return {"says": f"Undecided: the search ended after {done.lines[-1].split(' ')[-1]} configurations. Your program may make many more steps than the exercise needs."}
+        return {"says": f"Undecided: the search ended after {last[-1]} configurations. Your program may make many more steps than the exercise needs."}
     if done.status != 1:
         return runs.trouble(done)
     wrote = next((line.split(" ", 2) for line in done.lines if line.startswith("wrote ")), None)
-    kind = (wrote[1] if wrote else done.lines[-1].split(" ")[1])
+    kind = wrote[1] if wrote else last[1]
     items = wrote[2] if wrote and len(wrote) > 2 else ""
     fault = next((line.split(" ")[3] for line in reversed(done.lines) if line.startswith("step fault ")), "")
     if kind == "fault":

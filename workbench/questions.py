@@ -49,6 +49,7 @@ QUESTIONS = [
         "finite": "There is no such outcome.", "over": OVER, "else": "The run below has this outcome."}, fields=("which",), shown=False),
     Question("grade", "Does each run write one of the outputs below?", "grade P N OUTPUTS", {
         "finite": "Yes, each run that ends does, without an error or an object in a call. The search kept {0} configurations.", "over": OVER,
+        "running": "No run ends, and so none writes another output. None leads to an error or to an object that waits in a call for good.",
         "else": "No. The run below writes something else, meets an error, or leaves an object in a call."}, fields=("outputs",),
         hint="One output in each line, with a space between its items; a string stands in quotes. An empty line is the output of a run that writes nothing."),
 ]
