@@ -131,7 +131,6 @@ def make(jobs, shown, programs, tries=None, proved=True):
         response.headers.setdefault("Content-Security-Policy", SAFE)
         response.headers["X-Content-Type-Options"] = "nosniff"
         response.headers["Referrer-Policy"] = "no-referrer"
-        response.headers["Cross-Origin-Opener-Policy"] = "same-origin"
         response.headers.setdefault("Cache-Control", "no-store")
         return response
 

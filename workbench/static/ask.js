@@ -34,8 +34,12 @@ function outcomes(told, text) {
   return table;
 }
 
-export async function put_question() {
-  const question = chosen(), text = program(), out = $('ask-out');
+let asked = '';
+export const stale = () => { $('ask-stale').hidden = asked === '' || asked === program(); };
+
+export async function putQuestion() {
+  const question = chosen(), text = asked = program(), out = $('ask-out');
+  stale();
   out.replaceChildren();
   const told = await put(question, question.fields.includes('outputs') ? { outputs: $('ask-lines').value } : {}, text, out);
   if (!told) return;
@@ -60,6 +64,6 @@ export function begin(setting) {
   };
   $('ask-questions').addEventListener('change', fields);
   fields();
-  $('ask-form').addEventListener('submit', event => { event.preventDefault(); put_question(); });
+  $('ask-form').addEventListener('submit', event => { event.preventDefault(); putQuestion(); });
   $('ask-stop').addEventListener('click', () => stop?.abort());
 }

@@ -80,7 +80,7 @@ async function start() {
   onChange(() => {
     $('linked').textContent = '';
     $('link-label').hidden = true;
-    hand.stale();
+    for (const it of [run, hand, questions]) it.stale();
     clearTimeout(waiting);
     waiting = setTimeout(address, 600);
   });
@@ -95,7 +95,7 @@ async function start() {
   addEventListener('keydown', event => {
     if (event.key !== 'Enter' || !(event.ctrlKey || event.metaKey)) return;
     event.preventDefault();
-    const act = { run: run.run, hand: () => hand.beginRun(), ask: questions.put_question, exercises: exercises.check }[shownTab()];
+    const act = { run: run.run, hand: () => hand.beginRun(), ask: questions.putQuestion, exercises: exercises.check }[shownTab()];
     if (act) act();
     else { document.getElementById('tab-run').click(); run.run(); }
   }, true);

@@ -31,8 +31,12 @@ export function refuse(out, told) {
 
 export const written = items => items.map(it => /^".*"$/.test(it) ? it.slice(1, -1) : it).join('\n');
 
+let ran = '';
+export const stale = () => { $('run-stale').hidden = ran === '' || ran === program(); };
+
 export async function run() {
-  const text = program(), out = $('run-out'), seed = $('run-random').checked ? Number($('run-seed').value) : null;
+  const text = ran = program(), out = $('run-out'), seed = $('run-random').checked ? Number($('run-seed').value) : null;
+  stale();
   out.setAttribute('aria-busy', 'true');
   const told = await ask('api/run', { program: text, nodes: Number($('run-nodes').value), seed });
   out.removeAttribute('aria-busy');
