@@ -155,6 +155,7 @@ fill_makes k name other s t read lines o v first is typed second named opened gi
 
 found_whole : (found : Found) → WholeTextWritten (status_of_found found)
 found_whole O.Finite = inl refl
+found_whole O.Running = inr (inr (inl refl))
 found_whole O.Shown = inr (inl refl)
 found_whole O.Over = inr (inr (inl refl))
 found_whole O.Run = inl refl

@@ -41,7 +41,7 @@ HasFault (source ∷ []) I.Record s (F.Record fault) = (record_of s).fault ≡ S
 HasFault _ _ s fault = ⊥
 
 abbrev pub usage_line : Text
-usage_line = codes "usage: explore search [stuck|fault] [all] P N, explore search writes P N, explore search run J P N, explore grade P N [OUTPUT].., explore watch P R [A B], explore waits|fill P R, explore follow P [R]\n"
+usage_line = codes "usage: explore search [stuck|fault] [all] P N, explore search writes P N, explore search run J P N, explore grade [--may-run-on] P N [OUTPUT].., explore watch P R [A B], explore waits|fill P R, explore follow P [R]\n"
 
 -- the program `explore`; it makes no text of an input itself
 abbrev pub explore_program : Program

@@ -26,6 +26,7 @@ use Rattle.explore_driver.specs.Words.{Request, of_fill, of_search, of_watch}
 -- the status with which the answer of a search is written
 abbrev pub status_of_found : Found → Status
 status_of_found O.Finite = S.Done
+status_of_found O.Running = S.ScheduleOver
 status_of_found O.Shown = S.DoneFaulted
 status_of_found O.Over = S.ScheduleOver
 status_of_found O.Run = S.Done

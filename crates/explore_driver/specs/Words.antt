@@ -65,9 +65,14 @@ search_of (a ∷ b ∷ name ∷ n ∷ []) =
 search_of (a ∷ b ∷ c ∷ d ∷ e ∷ ws) = None
 
 -- the name of a file, a bound, and the outputs that are allowed
+abbrev pub graded_of : Bool → List Text → Option Request
+graded_of may_run_on (name ∷ n ∷ allowed) = if is_dashed name then None else option_map (λ most. of_search (of_grade allowed may_run_on most) name) (most_of (decimal_of n))
+graded_of may_run_on _ = None
+
+-- `--may-run-on`, which is optional, and then these
 abbrev pub grade_of : List Text → Option Request
-grade_of (name ∷ n ∷ allowed) = if is_dashed name then None else option_map (λ most. of_search (of_grade allowed most) name) (most_of (decimal_of n))
-grade_of _ = None
+grade_of [] = None
+grade_of (w ∷ ws) = if bytes_eq w (codes "--may-run-on") then graded_of true ws else graded_of false (w ∷ ws)
 
 -- the lines from the first number up to the last
 abbrev pub lines_of : Text → Text → Decimal → Decimal → Option Request

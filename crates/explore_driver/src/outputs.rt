@@ -44,7 +44,7 @@ fn status_of_found(found: Found) -> Status
     match found {
         Found::Finite | Found::Run => Status::Done,
         Found::Shown | Found::Missing => Status::DoneFaulted,
-        Found::Over => Status::ScheduleOver,
+        Found::Over | Found::Running => Status::ScheduleOver,
     }
 }
 

@@ -1,7 +1,7 @@
 //! Reads the arguments of a command.
 ghost use Rattle.std.specs.Prelude.{◌≡◌, [], ◌∷◌, option_map, IfSome};
 ghost use Rattle.text_scan.specs.Lines.{decimal_of};
-ghost use Rattle.explore_driver.specs.Words.{command_of, follow_of, grade_of, is_dashed, lines_of, most_of, of_fill, of_follow, of_watch, outcomes_for, pair_of, request_of, run_for, search_for, search_of, texts_of, wanted_of, watch_of};
+ghost use Rattle.explore_driver.specs.Words.{command_of, follow_of, grade_of, graded_of, is_dashed, lines_of, most_of, of_fill, of_follow, of_watch, outcomes_for, pair_of, request_of, run_for, search_for, search_of, texts_of, wanted_of, watch_of};
 ghost use Rattle.explore_driver.specs.AskedRequest.{IsOrdered, IsSized, IsSizedCommand, request, wanted};
 
 use pool_search::{Query, Target};
@@ -203,10 +203,10 @@ fn search_of<'a>(words: &'a [String]) -> Option<Asked<'a>>
     }
 }
 
-/// The grading of the arguments after the first: a name, a bound, and the outputs that are allowed. None if they are
-/// not one.
-fn grade_of<'a>(words: &'a [String]) -> Option<Asked<'a>>
-    ensures request { option_map request result ≡ grade_of (texts_of words.now) }
+/// The grading of a name, a bound, and the outputs that are allowed. `may_run_on` tells whether it may be that no run
+/// ends. None if the arguments are not these.
+fn graded_of<'a>(may_run_on: bool, words: &'a [String]) -> Option<Asked<'a>>
+    ensures request { option_map request result ≡ graded_of may_run_on (texts_of words.now) }
     ensures sized { IfSome result (λ asked. IsSized asked) }
 {
     let [name, word, allowed @ ..] = words else {
@@ -217,11 +217,30 @@ fn grade_of<'a>(words: &'a [String]) -> Option<Asked<'a>>
     }
     match most_of(word.as_str()) {
         Some(most) => Some(Asked::Search {
-            question: Question::Graded { allowed, most },
+            question: Question::Graded {
+                allowed,
+                may_run_on,
+                most,
+            },
             name: name.as_str(),
         }),
         None => None,
     }
+}
+
+/// The grading of the arguments after the first: `--may-run-on`, which is optional, and what is graded. None if they are
+/// not one.
+fn grade_of<'a>(words: &'a [String]) -> Option<Asked<'a>>
+    ensures request { option_map request result ≡ grade_of (texts_of words.now) }
+    ensures sized { IfSome result (λ asked. IsSized asked) }
+{
+    let Some((word, rest)) = words.split_first() else {
+        return None;
+    };
+    if word.as_str() == "--may-run-on" {
+        return graded_of(true, rest);
+    }
+    graded_of(false, words)
 }
 
 /// The lines from one number up to another. None if one of them is not a number, the first is 0, or the last is smaller

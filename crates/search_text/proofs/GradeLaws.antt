@@ -1,5 +1,5 @@
 -- The grade of a program from a list of its outcomes that are all allowed.
-use Rattle.std.proofs.Common.{◌≡◌, ◌≤◌, ◌++◌, ℕ, List, [], ◌∷◌, map, Bool, true, false, inl, inr, refl, subst}
+use Rattle.std.proofs.Common.{◌≡◌, ◌<◌, ◌≤◌, ℕ, List, [], ◌∷◌, length, map, Bool, true, false, inl, inr, refl, sym, subst, arith, ◌∙◌}
 use Rattle.std.proofs.lemmas.Bool.{and_parts}
 use Rattle.text_scan.specs.Text.{Text}
 use Rattle.run_types.specs.declared.types.Item.{Item}
@@ -11,23 +11,30 @@ use Rattle.pool_relation.specs.Action.{Action, action}
 use Rattle.pool_relation.specs.Configuration.{Configuration}
 use Rattle.reachability.specs.Outcomes.{EndsWith}
 use Rattle.reachability.specs.Renaming.{renamed_item}
-use Rattle.reachability.specs.Search.{AnObject, IsFaulty, IsStuck, IsUnfinished, is_in_call, is_left_over}
+use Rattle.reachability.specs.Search.{AnObject, IsFaulty, IsReached, IsStuck, IsUnfinished, is_in_call, is_left_over}
 use Rattle.pool_search.specs.declared.outcomes.EndKind.{EndKind}
 use Rattle.pool_search.specs.declared.outcomes.EndKind.TheVariants as K
 use Rattle.pool_search.specs.declared.outcomes.Outcome.{Outcome}
 use Rattle.pool_search.specs.OutcomeTargets.{HasAllOutcomes, HasOutcome, IsOfKind, IsShown}
-use Rattle.search_text.specs.AnswerText.{ending, outcomes_text}
 use Rattle.search_text.specs.Answers as A
-use Rattle.search_text.specs.Answers.{Grades, found_of}
-use Rattle.search_text.specs.GradedRuns.{EndsAllowed}
+use Rattle.search_text.specs.Answers.{Answers, Grades, GradesEnds, any_wrong}
+use Rattle.search_text.specs.GradedRuns.{EndsAllowed, IsWell, RunsWell, SomeRunEnds}
 use Rattle.search_text.specs.Grading.{ends_well, is_allowed, is_one_of, output_text}
+use Rattle.search_text.specs.ListedOutcomes as T
+use Rattle.search_text.specs.ListedOutcomes.{TellsAllowed}
 use Rattle.search_text.specs.declared.answers.Found.{Found}
+use Rattle.search_text.specs.declared.answers.Found.TheVariants as O
+use Rattle.pool_search.specs.declared.queries.Query.{Query}
+use Rattle.pool_search.specs.SearchTargets.{IsFinite}
 
-pub listed_grade : (names : List Text) (p : ProgramTree) (allowed : List Text) (most : ℕ) (list : List Outcome) (whole : Bool) (kept : ℕ) (text : Text) (found : Found) → Each (IsShown p) list
-    → (whole ≡ true → HasAllOutcomes p list) → Each (λ o. is_allowed allowed names o ≡ true) list → kept ≤ most → text ≡ outcomes_text names list ++ ending whole kept → found ≡ found_of whole
-    → Grades names p allowed most text found
-listed_grade names p allowed most list true kept text found shown all right within says is = A.passes list kept (all refl) shown right within says is
-listed_grade names p allowed most list false kept text found shown all right within says is = A.unknown list kept shown within says is
+-- the grade of what is told of outcomes that are all allowed
+pub allowed_grade : (names : List Text) (p : ProgramTree) (allowed : List Text) (may_run_on : Bool) (most : ℕ) (list : List Outcome) (whole : Bool) (kept : ℕ) (text : Text) (found : Found)
+    → Each (IsShown p) list → (whole ≡ true → HasAllOutcomes p list) → Each (λ o. is_allowed allowed names o ≡ true) list → kept ≤ most → TellsAllowed names list whole kept may_run_on text found
+    → GradesEnds names p allowed may_run_on most text found
+allowed_grade names p allowed may_run_on most list true kept text found shown all right within (T.listed some says is) = A.passes list kept (all refl) shown right (some refl) within says is
+allowed_grade names p allowed may_run_on most list false kept text found shown all right within (T.listed some says is) = A.unknown list kept shown within says is
+allowed_grade names p allowed may_run_on most list whole kept text found shown all right within (T.empty complete none asked says is) =
+    A.running kept (subst (HasAllOutcomes p) none (all complete)) asked within says is
 
 left_if_in_call : (a : Action) → is_in_call a ≡ true → is_left_over a ≡ true
 left_if_in_call (N.Send b m args) h = refl
@@ -72,9 +79,56 @@ allowed_end names allowed p (o ∷ os) w d each (inl has) =
     )
 allowed_end names allowed p (o ∷ os) w d each (inr has) = allowed_end names allowed p os w d each.1 has
 
-pub each_run : (names allowed : List Text) (p : ProgramTree) (list : List Outcome) → HasAllOutcomes p list → Each (λ o. is_allowed allowed names o ≡ true) list → (w : List Item) (d : Configuration)
+each_run : (names allowed : List Text) (p : ProgramTree) (list : List Outcome) → HasAllOutcomes p list → Each (λ o. is_allowed allowed names o ≡ true) list → (w : List Item) (d : Configuration)
     → EndsWith p w d → EndsAllowed names allowed p w d
 each_run names allowed p list all each w d ends =
     let found = all.under_names w d ends in
     let good = allowed_end names allowed p list (map (renamed_item found.0.to) w) d each found.1 in
     record { no_error = good.0.0; none_in_a_call = good.0.1; renaming = found.0; output = good.1 }
+
+-- an answer that found nothing shows that there is nothing
+pub finite_of : (names : List Text) (p : ProgramTree) (q : Query) (text : Text) (found : Found) → Answers names p q text found → found ≡ O.Finite → (kept : ℕ) × IsFinite p q kept
+finite_of names p q text found (A.stuck ls run says is) h = absurd (let z : O.Shown ≡ O.Finite = sym is ∙ h in cc)
+finite_of names p q text found (A.dead ls objects run says is) h = absurd (let z : O.Shown ≡ O.Finite = sym is ∙ h in cc)
+finite_of names p q text found (A.faulty ls run says is) h = absurd (let z : O.Shown ≡ O.Finite = sym is ∙ h in cc)
+finite_of names p q text found (A.finite kept never says is) h = (kept, never)
+finite_of names p q text found (A.over kept within says is) h = absurd (let z : O.Over ≡ O.Finite = sym is ∙ h in cc)
+
+-- what a query that found nothing says of a configuration that is reached
+well_where : (p : ProgramTree) (most kept : ℕ) → IsFinite p (any_wrong most) kept → (d : Configuration) → IsReached p d → IsWell p d
+well_where p most kept finite d reached = record {
+  no_error = λ h. (finite.never d reached).not_faulty (record { asked = refl; holds = h });
+  none_dead = λ h. (finite.never d reached).not_stuck (record { asked = refl; holds = h });
+  goes_on = λ o w. finite.goes_on refl d o reached w;
+}
+
+-- an outcome that is shown is that of a run that ends
+ends_of : (p : ProgramTree) (list : List Outcome) → 0 < length list → Each (IsShown p) list → SomeRunEnds p
+ends_of p [] some each = absurd (omega arith)
+ends_of p (o ∷ os) some each =
+    let run = each.0.1 in
+    record {
+      wrote = o.items.items;
+      last = run.leads.last;
+      ends = record {
+        root = 0;
+        first = run.leads.first;
+        labels = each.0.0;
+        starts = run.leads.starts;
+        leads = run.leads.leads;
+        at_end = run.leads.holds.at_end;
+        writes = run.writes;
+      };
+    }
+
+-- a pass says so of all runs
+pub pass_runs_well : (names allowed : List Text) (p : ProgramTree) (may_run_on : Bool) (most : ℕ) (text : Text) → Grades names p allowed may_run_on most text O.Finite → RunsWell names allowed may_run_on p
+pass_runs_well names allowed p may_run_on most text (A.by_search answers other) = absurd (other refl)
+pass_runs_well names allowed p may_run_on most text (A.by_ends (A.passes list kept all shown right some within says is) nothing) = record {
+  ends = λ w d e. each_run names allowed p list all right w d e;
+  each = λ d r. well_where p most (nothing refl).0 (nothing refl).1 d r;
+  some = λ m. ends_of p list (some m) shown;
+}
+pass_runs_well names allowed p may_run_on most text (A.by_ends (A.running kept all asked within says is) nothing) = absurd (cc is)
+pass_runs_well names allowed p may_run_on most text (A.by_ends (A.fails o ls run wrong says is) nothing) = absurd (cc is)
+pass_runs_well names allowed p may_run_on most text (A.by_ends (A.unknown list kept shown within says is) nothing) = absurd (cc is)

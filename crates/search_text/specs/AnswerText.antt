@@ -41,6 +41,10 @@ finite_text kept = end_line (codes "finite") kept
 abbrev pub over_text : ℕ → Text
 over_text kept = end_line (codes "over") kept
 
+-- no run ends, and the search kept this number of configurations
+abbrev pub running_text : ℕ → Text
+running_text kept = end_line (codes "running") kept
+
 -- the word for the kind of an end
 abbrev pub kind_word : EndKind → Text
 kind_word K.Fault = codes "fault"

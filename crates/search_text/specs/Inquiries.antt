@@ -9,4 +9,4 @@ abbrev pub inquiry : Question → Inquiry
 inquiry (Q.Sought q) = of_query q
 inquiry (Q.Outcomes most) = of_outcomes most
 inquiry (Q.Run place most) = of_outcome place most
-inquiry (Q.Graded allowed most) = of_grade (map string_bytes allowed.now) most
+inquiry (Q.Graded allowed may_run_on most) = of_grade (map string_bytes allowed.now) may_run_on most

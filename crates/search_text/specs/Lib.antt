@@ -7,4 +7,5 @@ pub mod ChosenRows
 -- Internal: what it does not.
 pub mod GradedRuns
 pub mod Inquiries
+pub mod ListedOutcomes
 pub mod OpenSteps

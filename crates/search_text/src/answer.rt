@@ -1,7 +1,7 @@
 //! The answers of a search, by what it found.
 ghost use Rattle.std.specs.Prelude.{◌≡◌, ◌++◌, map, IfOk, OnOk};
 ghost use Rattle.record_writer.specs.RecordText.{item_text, led};
-ghost use Rattle.search_text.specs.AnswerText.{end_line, fault_text, ending, finite_text, kind_word, outcome_line, outcomes_text, over_text, run_text, stuck_text, wrong_text};
+ghost use Rattle.search_text.specs.AnswerText.{end_line, fault_text, ending, finite_text, kind_word, outcome_line, outcomes_text, over_text, run_text, running_text, stuck_text, wrong_text};
 ghost use Rattle.search_text.specs.declared.answers.Found.TheVariants as O;
 ghost use Rattle.wait_report.specs.Calls.{names_of, Rising};
 
@@ -80,6 +80,19 @@ pub fn over_answer(alloc: Global, kept: u32) -> Result<Answer, AllocError>
     Ok(Answer {
         text,
         found: Found::Over,
+    })
+}
+
+/// The answer of a complete search for outcomes that found none. `kept` is the number of configurations. An error means
+/// out of memory.
+pub fn running_answer(alloc: Global, kept: u32) -> Result<Answer, AllocError>
+    ensures { IfOk result (λ a. (a.text.items ≡ running_text kept) × (a.found ≡ O.Running)) }
+{
+    let mut text = Vec::new(alloc);
+    put!(push_end(&mut text, b"running", kept as usize));
+    Ok(Answer {
+        text,
+        found: Found::Running,
     })
 }
 

@@ -3,12 +3,13 @@ ghost use Rattle.std.specs.Prelude.{◌≡◌, ◌++◌, map, string_bytes, IfOk
 ghost use Rattle.pool_syntax.specs.TreeOf.{program_of};
 ghost use Rattle.pool_search.specs.SearchTargets.{IsWantedDead, IsWantedEnd, LeadsInOrder};
 ghost use Rattle.search_text.specs.AnswerText.{ending, outcomes_text};
-ghost use Rattle.search_text.specs.Answers.{Answers, Grades, IsAnswerTo, ShowsRun, TellsOutcomes, found_of};
+ghost use Rattle.search_text.specs.Answers.{Answers, Grades, GradesEnds, IsAnswerTo, ShowsRun, TellsOutcomes, found_of};
 ghost use Rattle.search_text.specs.Inquiries.{inquiry};
+ghost use Rattle.search_text.specs.ListedOutcomes.{TellsAllowed};
 
 use crate::answer::{
-    fault_answer, finite_answer, outcomes_text, over_answer, shown_answer, waiting_answer,
-    wrong_answer,
+    fault_answer, finite_answer, outcomes_text, over_answer, running_answer, shown_answer,
+    waiting_answer, wrong_answer,
 };
 use crate::chosen::rows_of;
 use crate::grading::{first_wrong, is_allowed};
@@ -16,7 +17,7 @@ use crate::shown::replay;
 use class_check::Checked;
 use label_list::LabelList;
 use pool_search::{
-    OutcomeRun, Outcomes, Progress, Query, SearchResult, all_outcomes, outcome_run, search,
+    OutcomeRun, Outcomes, Progress, Query, SearchResult, Target, all_outcomes, outcome_run, search,
 };
 use run_types::Names;
 use std::alloc::{AllocError, Global};
@@ -28,14 +29,23 @@ pub enum Question<'a> {
     /// Is there a run that the query looks for?
     Sought(Query),
     /// All outcomes. The search keeps at most `most` configurations.
-    Outcomes { most: u32 },
+    Outcomes {
+        most: u32,
+    },
     /// A run with the outcome at this place in the list of outcomes, counted from 1. The search keeps at most `most`
     /// configurations.
-    Run { place: u32, most: u32 },
-    /// Does each run that comes to its end write one of these outputs, without an error and with no object in a call?
-    /// An output is the items of the line of an outcome, with a space between each two. The search keeps at most `most`
-    /// configurations.
-    Graded { allowed: &'a [String], most: u32 },
+    Run {
+        place: u32,
+        most: u32,
+    },
+    /// Does each run that comes to its end write one of these outputs, does no run lead to a dead object or a run-time
+    /// error, and does some run come to its end, unless the program may run on? An output is the items of the line of an
+    /// outcome, with a space between each two. The search keeps at most `most` configurations.
+    Graded {
+        allowed: &'a [String],
+        may_run_on: bool,
+        most: u32,
+    },
 }
 
 /// What a search found.
@@ -43,6 +53,8 @@ pub enum Question<'a> {
 pub enum Found {
     /// No run leads to a configuration that the search looks for, or has an outcome that is not allowed.
     Finite,
+    /// The same, and no run comes to its end, although the question asks for one.
+    Running,
     /// The text has a run that leads to such a configuration, or has an outcome that is not allowed.
     Shown,
     /// The search met a bound: `most` on kept configurations, 1,000,000 on transitions without a choice in a row, or a
@@ -188,21 +200,44 @@ fn run_answer<P: Progress>(
     }
 }
 
-/// The answer to the question whether each run that comes to its end has an outcome that is allowed. An error means out
-/// of memory.
-fn graded_answer<P: Progress>(
+/// The answer for outcomes that are all allowed: the list of them, or that no run ends, if the list is complete and empty
+/// and the program may not run on. An error means out of memory.
+fn allowed_answer(
+    alloc: Global,
+    names: &Names,
+    told: &Outcomes,
+    may_run_on: bool,
+) -> Result<Answer, AllocError>
+    ensures { IfOk result (λ a. TellsAllowed names.now told.now.list.items told.now.whole told.now.kept may_run_on a.text.items a.found) }
+{
+    if may_run_on {
+        return listed_answer(alloc, names, told, told.whole);
+    }
+    if told.whole {
+        if told.list.is_empty() {
+            return running_answer(alloc, told.kept);
+        }
+        return listed_answer(alloc, names, told, true);
+    }
+    listed_answer(alloc, names, told, false)
+}
+
+/// The answer to the question whether each run that comes to its end has an outcome that is allowed, and some run ends,
+/// unless the program may run on. An error means out of memory.
+fn ends_answer<P: Progress>(
     alloc: Global,
     program: &Checked<'_>,
     names: &Names,
     allowed: &[String],
+    may_run_on: bool,
     most: u32,
     progress: &mut P,
 ) -> Result<Answer, AllocError>
-    ensures { IfOk result (λ a. Grades names.now (program_of program.now.program.now) (map string_bytes allowed.now) most a.text.items a.found) }
+    ensures { IfOk result (λ a. GradesEnds names.now (program_of program.now.program.now) (map string_bytes allowed.now) may_run_on most a.text.items a.found) }
 {
     let told = all_outcomes(alloc, program, most, progress)?;
     let Some(place) = first_wrong(alloc, names, allowed, &told.list)? else {
-        return listed_answer(alloc, names, &told, told.whole);
+        return allowed_answer(alloc, names, &told, may_run_on);
     };
     if let OutcomeRun::Shown { outcome, labels } = outcome_run(
         alloc, program, most, place, progress,
@@ -212,6 +247,41 @@ fn graded_answer<P: Progress>(
         }
     }
     listed_answer(alloc, names, &told, false)
+}
+
+/// The answer to the question whether each run that comes to its end has an outcome that is allowed, some run ends,
+/// unless the program may run on, and no run leads to a dead object or a run-time error. If the list of outcomes may not
+/// be complete, such a run is shown all the same. An error means out of memory.
+fn graded_answer<P: Progress>(
+    alloc: Global,
+    program: &Checked<'_>,
+    names: &Names,
+    allowed: &[String],
+    may_run_on: bool,
+    most: u32,
+    progress: &mut P,
+) -> Result<Answer, AllocError>
+    ensures { IfOk result (λ a. Grades names.now (program_of program.now.program.now) (map string_bytes allowed.now) may_run_on most a.text.items a.found) }
+{
+    let ends = ends_answer(alloc, program, names, allowed, may_run_on, most, progress)?;
+    if let Found::Shown = ends.found {
+        return Ok(ends);
+    }
+    let query = Query {
+        wanted: Target::Both,
+        all: false,
+        most,
+    };
+    let wrong = sought_answer(alloc, program, names, &query, progress)?;
+    if let Found::Finite = wrong.found {
+        return Ok(ends);
+    }
+    if let Found::Over = ends.found {
+        if let Found::Over = wrong.found {
+            return Ok(ends);
+        }
+    }
+    Ok(wrong)
 }
 
 /// Searches the program, and returns the answer. An error means out of memory, or that a limit would be exceeded. An
@@ -230,8 +300,10 @@ pub fn answer_of<P: Progress>(
         Question::Sought(query) => sought_answer(alloc, program, names, query, progress),
         Question::Outcomes { most } => outcomes_answer(alloc, program, names, *most, progress),
         Question::Run { place, most } => run_answer(alloc, program, names, *place, *most, progress),
-        Question::Graded { allowed, most } => graded_answer(
-            alloc, program, names, allowed, *most, progress,
-        ),
+        Question::Graded {
+            allowed,
+            may_run_on,
+            most,
+        } => graded_answer(alloc, program, names, allowed, *may_run_on, *most, progress),
     }
 }

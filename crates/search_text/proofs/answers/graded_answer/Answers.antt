@@ -1,34 +1,20 @@
-use Rattle.std.proofs.Common.{◌≡◌, ◌∙◌, map, string_bytes, subst, sym, true}
-use Rattle.std.proofs.lemmas.Result.{IfOk-weaker}
-use Rattle.std.specs.Prelude.{IfNone}
-use Rattle.run_types.specs.Tables.{Each}
+use Rattle.std.proofs.Common.{◌≡◌, subst, true, false}
 use Rattle.pool_syntax.specs.TreeOf.{program_of}
 use Rattle.search_text.specs.Answers as A
-use Rattle.search_text.specs.Grading.{is_allowed}
-use Rattle.search_text.proofs.GradeLaws.{listed_grade}
+use Rattle.search_text.specs.Answers.{any_wrong, finds_nothing_wrong}
+use Rattle.search_text.specs.declared.answers.Found.{Found}
+use Rattle.search_text.proofs.GradeLaws.{finite_of}
 use Rattle.search_text.proofs.answers.graded_answer.Goals as goal
 
-pub returns-in_default : goal.returns-in_default
-returns-in_default g c =
-    let t = c.in_ok-told.told in
-    let h = c.in_ok-told.ensures in
-    let names = c.args.names.now in
-    let allowed = map string_bytes c.args.allowed.now in
-    let right = subst (λ r. IfNone r (Each (λ o. is_allowed allowed names o ≡ true) c.deref.result.now)) c.in_default.is c.in_ok-place.ensures in
-    IfOk-weaker c.listed_answer.result _ _ (λ a says.
-    listed_grade names (program_of c.args.program.now.program.now) allowed c.args.most t.list.items t.whole t.kept a.text.items a.found h.shown h.all
-    (subst (Each (λ o. is_allowed allowed names o ≡ true)) c.deref.ensures.value right) h.within says.0 says.1)
-    c.listed_answer.ensures
+pub returns-in-Shown : goal.returns-in-Shown
+returns-in-Shown g c = A.by_ends c.in_ok-ends.ensures (λ h. absurd (let z : false ≡ true = subst (λ (f : Found). finds_nothing_wrong f ≡ true) c.in-Shown.is h in cc))
 
-pub returns-then-not-branch : goal.returns-then-not-branch
-returns-then-not-branch g c =
-    let o = c.in-Shown.outcome in
-    IfOk-weaker c.wrong_answer.result _ _
-    (λ a says. A.fails o c.in-Shown.labels (c.in_ok-outcome.ensures.shown o c.in-Shown.labels c.in-Shown.is) (sym c.in_ok-is_allowed.ensures ∙ c.if-not-branch.true) says.0 says.1)
-    c.wrong_answer.ensures
+pub returns-in-Finite : goal.returns-in-Finite
+returns-in-Finite g c =
+    A.by_ends c.in_ok-ends.ensures (λ h. finite_of c.args.names.now (program_of c.args.program.now.program.now) (any_wrong c.args.most) c.in_ok-wrong.wrong.text.items c.in_ok-wrong.wrong.found c.in_ok-wrong.ensures c.in-Finite.is)
+
+pub returns-in-Over-found : goal.returns-in-Over-found
+returns-in-Over-found g c = A.by_ends c.in_ok-ends.ensures (λ h. absurd (let z : false ≡ true = subst (λ (f : Found). finds_nothing_wrong f ≡ true) c.in-Over.is h in cc))
 
 pub returns : goal.returns
-returns g c =
-    let t = c.in_ok-told.told in
-    let h = c.in_ok-told.ensures in
-    IfOk-weaker c.listed_answer-2.result _ _ (λ a says. A.unknown t.list.items t.kept h.shown h.within says.0 says.1) c.listed_answer-2.ensures
+returns g c = A.by_search c.in_ok-wrong.ensures c.in_default-found.not-Finite
