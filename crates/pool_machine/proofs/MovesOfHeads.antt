@@ -34,6 +34,8 @@ use Rattle.node_state.specs.OfUnit.{IsOfUnit}
 use Rattle.node_turns.specs.Acts.{IsActOf}
 use Rattle.node_acts.specs.ActOf.{Act}
 use Rattle.node_acts.specs.ActOf as T
+use Rattle.pool_node.specs.Acceptable.{IsAcceptable}
+use Rattle.pool_node.proofs.Laws.{acceptable}
 use Rattle.machine_network.specs.LinkWires.{numbered_link}
 use Rattle.machine_network.proofs.Laws.{leaving_numbered, list_numbered, listed_elsewhere, listed_filled, listed_numbered, pushed_filled, state_there}
 use Rattle.pool_machine.specs.Parts.{NodesInvariant, NodesAreWellFormed, IsDid, machine_from}
@@ -157,12 +159,15 @@ module _ (u : Code) (l : Placement) (nodes : List NodeOf) (k : LinksOf Packet) (
         ∙ ap₂ (λ i j. after_node l b (machine_from nodes (headless a b k).links) (receipt_act (coded u) l i j (numbered packet) (get_or nodes b d).state))
         (sym (is_node u l nodes k kept b link.to d).id) out_same
 
-    pub receivable : IsReceivable (coded u) (get_or nodes b d).id (get_or nodes b d).state (numbered packet).number (numbered packet).packet
+    receivable : IsReceivable (coded u) (get_or nodes b d).id (get_or nodes b d).state (numbered packet).number (numbered packet).packet
     receivable =
         subst (λ i. IsReceivable (coded u) i (get_or nodes b d).state (numbered packet).number (numbered packet).packet) (sym (is_node u l nodes k kept b link.to d).id)
         (head_is_receivable (coded u) (IsOfCode u) (code_lawful u kept.parts.proper) (code_requests u) (code_names u kept.parts.proper) l (few_objects u l kept.parts.suits)
         (machine_from nodes k.links) kept.config kept.delay kept.sound kept.stands.state a b (numbered packet) (map numbered (drop 1 (list_at pair_cmp (a, b) k.links))) all_numbered at
         (get_or nodes b d).state (state_there nodes b (get_or nodes b d) here))
+
+    pub is_acceptable : IsAcceptable (coded u) (get_or nodes b d).state (numbered packet).packet
+    is_acceptable = acceptable (coded u) (get_or nodes b d).id (get_or nodes b d).state (numbered packet).number (numbered packet).packet receivable
 
     module _ (out : ℕ) (count : out ≡ leaving k.links b) where
       abbrev Received : Act → NodeOf → Type 0

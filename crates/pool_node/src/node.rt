@@ -1,5 +1,5 @@
 //! One node.
-ghost use Rattle.std.specs.Prelude.{◌≡◌, ◌<◌, ◌≤◌, ◌+◌, ◌-◌, ◌*◌, ◌^◌, ℕ, [], ◌∷◌, length, slice_get, is_some, Some, IfOk};
+ghost use Rattle.std.specs.Prelude.{◌≡◌, ◌<◌, ◌≤◌, ◌+◌, ◌-◌, ◌*◌, ◌^◌, ℕ, [], ◌∷◌, length, slice_get, is_some, Some, IfOk, IsTrue, ◌↔◌};
 ghost use Rattle.std.specs.List.{list_any};
 ghost use Rattle.code_semantics.specs.Proper.{IsProper};
 ghost use Rattle.code_semantics.specs.Suits.{Suits};
@@ -10,16 +10,17 @@ ghost use Rattle.mesh_of_code.specs.Coded.{Placed, coded};
 ghost use Rattle.node_semantics.specs.Node.{Slot, fresh_slot, message_count, name_at, ready_slots, receipt_act, turn_act};
 ghost use Rattle.node_semantics.specs.Machine.{empty_node};
 ghost use Rattle.node_semantics.specs.Agrees.{IsUnused};
-ghost use Rattle.node_semantics.specs.Receives.{IsReceivable};
 ghost use Rattle.node_semantics.specs.Standings.{slot_standing};
 ghost use Rattle.rendezvous_protocol.specs.Packets.{numbered};
 ghost use Rattle.node_state.specs.OfUnit.{IsOfPlacement, IsOfUnit};
 ghost use Rattle.node_acts.specs.ActOf.{act_of, act_seen};
 ghost use Rattle.node_turns.specs.Acts.{IsActOf};
+ghost use Rattle.pool_node.specs.Acceptable.{IsAcceptable};
+ghost use Rattle.pool_node.specs.MadeCounts.{most_made};
 ghost use Rattle.pool_node.specs.Standings.{told_standing};
 
 use crate::making_node::{filled, most_vars_of, slot_tables, start_in};
-use crate::receipt::receipt_of;
+use crate::receipt::{can_receive, receipt_of};
 use crate::standing::{any_fault, standing_of};
 use code_semantics::Unit;
 use mailbox::Mailbox;
@@ -179,12 +180,21 @@ impl Node {
         requires unit { IsOfUnit plan.now.unit.now self.old }
         requires placement { IsOfPlacement plan.now.unit.now plan.now.placement.now self.old }
         requires cells { message_count self.old.state.slots + plan.now.leaving ≤ self.old.most_cells }
-        requires packet { IsReceivable (coded plan.now.unit.now) self.old.id self.old.state (numbered packet).number (numbered packet).packet }
+        requires packet { IsAcceptable (coded plan.now.unit.now) self.old.state (numbered packet).packet }
         ensures act { IsActOf (act_of result room.new) self.old self.new (receipt_act (coded plan.now.unit.now) plan.now.placement.now self.old.id plan.now.leaving (numbered packet) self.old.state) }
         ensures unit { IsOfUnit plan.now.unit.now self.new }
         ensures made { self.new.state.made ≡ self.old.state.made }
     {
         receipt_of(plan, &mut self.parts, packet, room)
+    }
+
+    /// Reports whether the node can receive a packet at its goal, as `receive_into` requires: the class of a new object
+    /// exists, and a receiver has a slot.
+    pub fn can_receive(&self, unit: &Unit, packet: &Packet) -> bool
+        requires { IsOfUnit unit.now self.now }
+        ensures { IsTrue result ↔ IsAcceptable (coded unit.now) self.now.state (numbered packet.now).packet }
+    {
+        can_receive(unit, &self.parts, packet)
     }
 
     /// `receive_into` with a buffer of its own.
@@ -198,7 +208,7 @@ impl Node {
         requires unit { IsOfUnit unit.now self.old }
         requires placement { IsOfPlacement unit.now placement.now self.old }
         requires cells { message_count self.old.state.slots + leaving ≤ self.old.most_cells }
-        requires packet { IsReceivable (coded unit.now) self.old.id self.old.state (numbered packet).number (numbered packet).packet }
+        requires packet { IsAcceptable (coded unit.now) self.old.state (numbered packet).packet }
         ensures act { IsActOf (act_seen result) self.old self.new (receipt_act (coded unit.now) placement.now self.old.id leaving (numbered packet) self.old.state) }
         ensures unit { IsOfUnit unit.now self.new }
         ensures made { self.new.state.made ≡ self.old.state.made }
@@ -257,12 +267,33 @@ impl Node {
         self.parts.heap.class_of(slot)
     }
 
+    /// The largest number of objects of one class that the objects of the node have made. The time is linear in the
+    /// number of classes.
+    pub fn most_made(&self) -> u32
+        ensures { result ≡ most_made self.now.state.made }
+    {
+        greatest(self.parts.made.items())
+    }
+
     /// Reports whether an object of the node has met a run-time error.
     pub fn any_faulted(&self) -> bool
         ensures { result ≡ list_any (λ (s : Slot Placed). is_some s.state.fault) self.now.state.slots }
     {
         any_fault(&self.parts)
     }
+}
+
+/// The largest of these counts; 0 if there is none.
+fn greatest(counts: &[u32]) -> u32
+    ensures { result ≡ most_made counts.now }
+{
+    let mut most = 0;
+    for i in (0..counts.len()).rev() {
+        if most < counts[i] {
+            most = counts[i];
+        }
+    }
+    most
 }
 
 /// The act of an outcome and its output buffer, as one value.

@@ -1,5 +1,5 @@
 //! The receipt of a packet at its goal.
-ghost use Rattle.std.specs.Prelude.{◌≡◌, ℕ, ◌+◌, ◌<◌, ◌≤◌, None, Some, length};
+ghost use Rattle.std.specs.Prelude.{◌≡◌, ℕ, ◌+◌, ◌<◌, ◌≤◌, ◌↔◌, None, Some, IsTrue, length};
 ghost use Rattle.run_types.specs.declared.types.Placement.{Placement as OnePlacement};
 ghost use Rattle.run_types.specs.declared.types.What.TheVariants as W;
 ghost use Rattle.code_semantics.specs.Step.{class_from};
@@ -8,7 +8,7 @@ ghost use Rattle.run_types.specs.ObjectNames as DObjectNames;
 ghost use Rattle.mesh_of_code.specs.Coded.{coded};
 ghost use Rattle.node_semantics.specs.Node as N;
 ghost use Rattle.node_semantics.specs.Node.{deliver, receipt, receipt_act, message_count};
-ghost use Rattle.node_semantics.specs.Receives.{IsReceivable};
+ghost use Rattle.pool_node.specs.Acceptable.{IsAcceptable};
 ghost use Rattle.rendezvous_protocol.specs.Packets.{numbered};
 ghost use Rattle.node_state.specs.OfUnit.{IsOfPlacement, IsOfUnit};
 ghost use Rattle.node_acts.specs.ActOf.{act_of};
@@ -25,7 +25,7 @@ use node_acts::{
 use node_heap::HeapFull;
 use node_state::NodeParts;
 use rendezvous_protocol::Packet;
-use run_types::{FullKind, Label, NameId, Placement, Value, What};
+use run_types::{FullKind, Label, NameId, Placement, Value, What, slot_of};
 
 /// A request of another node's object for a new object: its number, the object, and the class by index and name.
 #[derive(Clone, Copy)]
@@ -48,6 +48,20 @@ pub(crate) fn class_named(unit: &Unit, class: NameId) -> Option<u32>
         }
     }
     None
+}
+
+/// Reports whether a packet can be received at its goal: the class of a new object exists, and a receiver has a slot.
+pub(crate) fn can_receive(unit: &Unit, parts: &NodeParts, packet: &Packet) -> bool
+    requires few { length unit.now.classes ≤ 256 }
+    ensures { IsTrue result ↔ IsAcceptable (coded unit.now) (node_of parts.now).state (numbered packet.now).packet }
+{
+    match packet {
+        Packet::Create { class, .. } => class_named(unit, *class).is_some(),
+        Packet::Created { .. } | Packet::Result { .. } => true,
+        Packet::Request { to, .. } | Packet::Async { to, .. } => {
+            slot_of(*to) < parts.heap.objects()
+        }
+    }
 }
 
 /// Makes an object of this class for an object of another node. The new name leaves as a packet.
@@ -160,7 +174,7 @@ fn received(
     room: &mut StepOutput,
 ) -> TurnOutcome
     requires set { IsSet plan.now.unit.now plan.now.placement.now plan.now.leaving parts.old }
-    requires packet { IsReceivable (coded plan.now.unit.now) parts.old.id (node_of parts.old).state (numbered packet).number (numbered packet).packet }
+    requires packet { IsAcceptable (coded plan.now.unit.now) (node_of parts.old).state (numbered packet).packet }
     ensures { ReportsAct plan.now.unit.now plan.now.placement.now plan.now.leaving (act_of result room.new) parts.old parts.new
         (receipt (coded plan.now.unit.now) parts.old.id (node_of parts.old).state (numbered packet).number (numbered packet).packet) }
 {
@@ -233,7 +247,7 @@ pub(crate) fn receipt_of(
     requires unit { IsOfUnit plan.now.unit.now (node_of parts.old) }
     requires placement { IsOfPlacement plan.now.unit.now plan.now.placement.now (node_of parts.old) }
     requires cells { message_count (slots_of parts.old) + plan.now.leaving ≤ plan.now.placement.now.cells }
-    requires packet { IsReceivable (coded plan.now.unit.now) parts.old.id (node_of parts.old).state (numbered packet).number (numbered packet).packet }
+    requires packet { IsAcceptable (coded plan.now.unit.now) (node_of parts.old).state (numbered packet).packet }
     ensures act { IsActOf (act_of result room.new) (node_of parts.old) (node_of parts.new)
         (receipt_act (coded plan.now.unit.now) plan.now.placement.now parts.old.id plan.now.leaving (numbered packet) (node_of parts.old).state) }
     ensures whole { NodeInvariant parts.new }

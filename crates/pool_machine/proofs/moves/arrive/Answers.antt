@@ -5,7 +5,7 @@ use Rattle.mesh_routing.specs.Links.{LinksOf}
 use Rattle.rendezvous_protocol.specs.Packets.{numbered}
 use Rattle.run_types.specs.declared.types.Placement.{Placement}
 use Rattle.pool_machine.proofs.ChangedNodes.{made_set}
-use Rattle.pool_machine.proofs.MovesOfHeads.{full_move, full_received, headless, idle_received, line_move, move_parts, move_posts, never_idle, receivable}
+use Rattle.pool_machine.proofs.MovesOfHeads.{full_move, full_received, headless, idle_received, line_move, move_parts, move_posts, never_idle, is_acceptable}
 use Rattle.pool_machine.proofs.TurnsOfNodes.{is_node, links_after, node_here, room_there, same_parts, with_packet}
 use Rattle.pool_machine.proofs.InsideMesh.{link_of_links, node_listed, node_of_links, node_of_table, table_height, table_width}
 use Rattle.pool_machine.proofs.moves.arrive.Goals as goal
@@ -15,7 +15,7 @@ receive_into-requires c = record {
   unit = (is_node c.args.plan.now.unit.now c.args.plan.now.placement.now c.args.nodes.now c.args.links.now c.requires.kept c.args.link.to c.requires.link.to c.index-nodes-link.result).of_unit;
   placement = (is_node c.args.plan.now.unit.now c.args.plan.now.placement.now c.args.nodes.now c.args.links.now c.requires.kept c.args.link.to c.requires.link.to c.index-nodes-link.result).of_placement;
   cells = room_there c.args.plan.now.unit.now c.args.plan.now.placement.now c.args.nodes.now c.args.links.now c.requires.kept c.args.link.to c.requires.link.to c.index-nodes-link.result c.leaving-leaving.result c.leaving-leaving.ensures.count;
-  packet = receivable c.args.plan.now.unit.now c.args.plan.now.placement.now c.args.nodes.now c.args.links.now c.requires.kept c.args.link.from c.args.link.to c.requires.link c.index-nodes-link.result c.args.packet c.requires.head c.requires.goal;
+  packet = is_acceptable c.args.plan.now.unit.now c.args.plan.now.placement.now c.args.nodes.now c.args.links.now c.requires.kept c.args.link.from c.args.link.to c.requires.link c.index-nodes-link.result c.args.packet c.requires.head c.requires.goal;
 }
 
 pub post-requires : goal.post-requires
