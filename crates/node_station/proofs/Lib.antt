@@ -1,0 +1,10 @@
+pub mod Counts
+pub mod BoundedCounts
+pub mod PostedRoom
+pub mod Settled
+pub mod ForgottenPackets
+pub mod FirstNodes
+pub mod ReadCounts
+pub mod Heard
+pub mod Turned
+pub mod Arrived

@@ -1,0 +1,4 @@
+-- Internal: what it does not.
+pub mod StationOf
+pub mod Outcomes
+pub mod Parts
