@@ -262,11 +262,13 @@ PIECES = [
 ]
 # How the root makes the two known to each other, and what it does last; it may go on for ever.
 LINKS = ["p ! set(q); q ! set(p)", "p !! set(q); q !! set(p)", "p ! set(q)"]
-LAST = ["", "; write p ! hit(3)", "; p !! tell(2)", "; q ! rest()", "; while true do self !! tick(); answer(tick) od"]
+LAST = ["", "; write p ! hit(3)", "; p !! tell(2)", "; q ! rest()", "; while true do self !! tick(); answer(tick) od", "; while true do od"]
+# What one of the two may do last: it spins, by local transitions alone.
+SPINS = ["while true do od", "while true do n := 1 - n od", "n := 2; while n > 0 do n := n % 3 + 1 od"]
 
 
 class Pair:
-    """A small program of two objects that know each other: they call each other, send, choose, divide and write."""
+    """A small program of two objects that know each other: they call each other, send, choose, divide and write. Some spin at last."""
 
     def __init__(self, dice):
         self.dice = dice
@@ -283,7 +285,8 @@ class Pair:
             "method tell(k : Int) begin n := k end",
             "method rest() begin end",
         ]
-        body = f"body answer(set); {self.dice.choice(PIECES)}; {self.dice.choice(PIECES)} end\n"
+        last = f"; {self.dice.choice(SPINS)}" if self.dice.random() < 0.15 else ""
+        body = f"body answer(set); {self.dice.choice(PIECES)}; {self.dice.choice(PIECES)}{last} end\n"
         return "\n".join([f"class {name}", f"var a : {other}", "var n : Int", *methods, body])
 
 

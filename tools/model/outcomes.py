@@ -157,8 +157,8 @@ class Interleavings:
         mail = tuple(sorted((pair, tuple((method, tuple(values)) for method, values in messages)) for pair, messages in made.mail.items() if messages))
         return tuple(self.number(made.objects[name]) for name in range(len(made.objects))), mail
 
-    def has_endless_object(self):
-        """Whether an object was met that can make local transitions for ever, and comes back to the same state again and again."""
+    def has_spinning_object(self):
+        """Whether an object was met that spins: by local transitions alone it comes back to a state that it had."""
         local = {(key[0], key[1]): made[0][0][1] for key, made in self.made.items() if made and key[0][0] == "local"}
         for words, number in local:
             seen = set()

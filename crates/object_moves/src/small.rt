@@ -10,7 +10,7 @@ ghost use Rattle.object_moves.specs.Effects.{alone, nothing, strolled, with_mess
 
 use pool_semantics::{Mail, State, post};
 use pool_syntax::Program;
-use search_states::copy;
+use search_states::{SpinWatch, copy};
 use std::alloc::{AllocError, Global};
 use std::collections::BTreeMap;
 use stepper_objects::object_state::ObjectState;
@@ -77,16 +77,30 @@ pub fn add_with_message<'a>(
     post(small.alloc, &mut small.messages, second, first, mail)
 }
 
-/// Makes local transitions of an object that is alone, until none is possible, and returns how many they were. None
-/// after 1,000,000 of them. An error means out of memory.
-pub fn stroll(small: &mut State<'_>, name: u32) -> Result<Option<u32>, AllocError>
+/// Whether the object spins, after one more local transition. An error means out of memory.
+fn spins<'a>(watch: &mut SpinWatch<'a>, small: &State<'a>, name: u32) -> Result<bool, AllocError> {
+    match small.objects.get(&name) {
+        Some(thing) => watch.stops(thing),
+        None => Ok(false),
+    }
+}
+
+/// Makes local transitions of an object that is alone, until none is possible or it spins, and returns how many they
+/// were. None after 1,000,000 of them. An error means out of memory.
+pub fn stroll<'a>(small: &mut State<'a>, name: u32) -> Result<Option<u32>, AllocError>
     ensures { (x : Object) → configuration small.old ≡ alone name x
         → IfOk result (λ o. IfSome o (λ k. (y : Object) × (configuration small.new ≡ alone name y) × (strolled (program_of small.old.program.now) name k x ≡ Some y))) }
 {
+    let mut watch = SpinWatch::make(small.alloc);
     for made in 0..MOST {
         match small.local(name) {
             Ok(true) => {}
             Ok(false) => return Ok(Some(made)),
+            Err(_) => return Err(AllocError),
+        }
+        match spins(&mut watch, small, name) {
+            Ok(true) => return Ok(Some(made + 1)),
+            Ok(false) => {}
             Err(_) => return Err(AllocError),
         }
     }

@@ -43,6 +43,17 @@ ran_more a b c xs ys h k =
 pub ran_still : (a b c : Plain) (ls : List Label) → HasRun a b ls → IsStill b c → HasRun a c ls
 ran_still a b c ls h k = record { program = k.program ∙ h.program; fresh = k.fresh; leads = h.leads ∙ ap (λ (x : Configuration). Some x) (sym k.same) }
 
+pub still_more : (a b c : Plain) → IsStill a b → IsStill b c → IsStill a c
+still_more a b c h k = record { program = k.program ∙ h.program; fresh = k.fresh; same = k.same ∙ h.same }
+
+pub still_ran : (a b c : Plain) (ls : List Label) → IsStill a b → HasRun b c ls → HasRun a c ls
+still_ran a b c ls h k =
+    record {
+      program = k.program ∙ h.program;
+      fresh = k.fresh;
+      leads = subst (λ (x : Configuration). run (program_tree a) x ls ≡ Some (configuration_of c)) h.same (subst (λ (p : ProgramTree). run p (configuration_of b) ls ≡ Some (configuration_of c)) h.program k.leads);
+    }
+
 -- one transition that was made
 pub made_one : (a b : Plain) (l : Label) → program_tree b ≡ program_tree a → is_spent b ≡ false → transition (program_tree a) (configuration_of a) l ≡ Some (configuration_of b) → HasRun a b (l ∷ [])
 made_one a b l program fresh step = record { program = program; fresh = fresh; leads = ap (λ t. t >>= λ x. Some x) step }

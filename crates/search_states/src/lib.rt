@@ -1,4 +1,4 @@
-//! States of objects for a search: copies, equality, hashes, and a table that stores each state once.
+//! States of objects for a search: copies, equality, hashes, a table that stores each state once, and objects that spin.
 //!
 //! Does not know: configurations.
 #![tactic(auto)]
@@ -9,10 +9,12 @@ mod copies;
 mod expressions;
 mod hashes;
 mod names;
+mod spin;
 mod statements;
 mod states;
 mod table;
 
 pub use copies::copy;
+pub use spin::SpinWatch;
 pub use states::same;
 pub use table::StateTable;
