@@ -12,7 +12,7 @@ use Rattle.pool_relation.specs.Reducible.{AsExpression, AsStatements}
 use Rattle.pool_relation.specs.Action.{method_of, action}
 use Rattle.pool_relation.specs.Configuration.{Configuration, object_of, put_object, messages_of}
 use Rattle.pool_relation.specs.Transition.{running, local_step, makes, calls, posts, returns, waits_on, writes, fails, picked, offer, has_message, first_message, without_first, refilled, done, returned, given, serving, new_object, last_class, transition, start}
-use Rattle.reachability.specs.Search.{IsReached, IsStuck, IsUnfinished, IsIn, after, names_next, IsInOrder}
+use Rattle.reachability.specs.Search.{IsReached, IsStuck, IsUnfinished, IsIn, IsInOrder}
 use Rattle.search_laws.specs.ClosedLists as C
 use Rattle.search_laws.specs.ClosedLists.{IsClosedAfterSettling}
 use Rattle.search_laws.specs.Renamed.{IsNameless}

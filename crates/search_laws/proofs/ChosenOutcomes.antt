@@ -27,12 +27,12 @@ use Rattle.search_laws.proofs.Choices.{Split, split, around, joined, longer, sam
 nobody : (p : ProgramTree) (n : ℕ) (c : Configuration) → Only p None n c
 nobody p n c w is = absurd (cc)
 
-written_joined : (ls ks : List Label) → written (ls ++ ks) ≡ written ls ++ written ks
+pub written_joined : (ls ks : List Label) → written (ls ++ ks) ≡ written ls ++ written ks
 written_joined [] ks = refl
 written_joined (l ∷ ls) ks = ap (λ x. items_of l ++ x) (written_joined ls ks) ∙ sym (append_assoc (items_of l) (written ls) (written ks))
 
 -- a label that writes nothing may be at any place
-written_without : (ls ks : List Label) (l : Label) → items_of l ≡ [] → written (ls ++ l ∷ ks) ≡ written (ls ++ ks)
+pub written_without : (ls ks : List Label) (l : Label) → items_of l ≡ [] → written (ls ++ l ∷ ks) ≡ written (ls ++ ks)
 written_without ls ks l e = written_joined ls (l ∷ ks) ∙ ap (λ x. written ls ++ (x ++ written ks)) e ∙ sym (written_joined ls ks)
 
 module _ (p : ProgramTree) (es : List Passed) (whole : IsWholeWithChoices p es) where

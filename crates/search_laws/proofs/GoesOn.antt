@@ -18,37 +18,37 @@ use Rattle.search_laws.specs.PutOff.{IsWholeByChoices}
 use Rattle.search_laws.proofs.ByChoices.{comes_in_order, found_by_choices, as_choices}
 
 -- a run leads from x to y
-record Toward (p : ProgramTree) (x y : Configuration) : Type 0 where
-  labels : List Label
-  leads : run p x labels ≡ Some y
+pub record Toward (p : ProgramTree) (x y : Configuration) : Type 0 where
+  pub labels : List Label
+  pub leads : run p x labels ≡ Some y
 
 -- from d, under other names, a run leads into the list
-record LeadsIn (p : ProgramTree) (es : List (ℕ × Configuration)) (d : Configuration) : Type 0 where
-  names : Renaming
-  other : Configuration
-  same : IsRenamed names.to d other
-  next : ℕ
-  seen : Configuration
-  is_in : IsIn next seen es
-  toward : Toward p other seen
+pub record LeadsIn (p : ProgramTree) (es : List (ℕ × Configuration)) (d : Configuration) : Type 0 where
+  pub names : Renaming
+  pub other : Configuration
+  pub same : IsRenamed names.to d other
+  pub next : ℕ
+  pub seen : Configuration
+  pub is_in : IsIn next seen es
+  pub toward : Toward p other seen
 
 one_more : (p : ProgramTree) (x c e : Configuration) (k : Label) → transition p c k ≡ Some e → Toward p x c → Toward p x e
 one_more p x c e k t h = record { labels = h.labels ++ k ∷ []; leads = joined p x c h.labels (k ∷ []) h.leads ∙ joined_step p c e e k [] t refl }
 
-leads_in : (p : ProgramTree) (es : List (ℕ × Configuration)) → IsNameless p → IsWholeByChoices p es → (d : Configuration) → IsReached p d → LeadsIn p es d
+pub leads_in : (p : ProgramTree) (es : List (ℕ × Configuration)) → IsNameless p → IsWholeByChoices p es → (d : Configuration) → IsReached p d → LeadsIn p es d
 leads_in p es less whole d reached =
     let r = comes_in_order p less d reached in
     let s = found_by_choices (Toward p r.to) p (λ c e k t h. one_more p r.to c e k t h) es whole r.first r.to r.labels r.starts r.orders r.leads (record { labels = []; leads = refl }) in
     record { names = r.names; other = r.to; same = r.same; next = s.next; seen = s.seen; is_in = s.is_in; toward = s.holds }
 
 -- a run from d with the names mapped back, for a run from the renamed configuration to g
-record Back (f : Renaming) (p : ProgramTree) (d g : Configuration) (ls : List Label) : Type 0 where
-  to : Configuration
-  leads : run p d (map (renamed_label f.from) ls) ≡ Some to
-  same : IsRenamed f.to to g
+pub record Back (f : Renaming) (p : ProgramTree) (d g : Configuration) (ls : List Label) : Type 0 where
+  pub to : Configuration
+  pub leads : run p d (map (renamed_label f.from) ls) ≡ Some to
+  pub same : IsRenamed f.to to g
 
 module _ (f : Renaming) (p : ProgramTree) (d e : Configuration) (less : IsNameless p) (same : IsRenamed f.to d e) where
-  back : (g : Configuration) (ls : List Label) → run p e ls ≡ Some g → Back f p d g ls
+  pub back : (g : Configuration) (ls : List Label) → run p e ls ≡ Some g → Back f p d g ls
   back g ls r = by (run p d (map (renamed_label f.from) ls)) (run (renamed_program f.to p) e (map (renamed_label f.to) (map (renamed_label f.from) ls))) refl there (run_renamed f p d e (map (renamed_label f.from) ls) same)
     where
       there : run (renamed_program f.to p) e (map (renamed_label f.to) (map (renamed_label f.from) ls)) ≡ Some g

@@ -23,6 +23,18 @@ pub mod Choices
 pub mod PutOff
 pub mod ByChoices
 pub mod GoesOn
+pub mod LeadsOn
+pub mod Watching
+pub mod Bounded
+pub mod PatternMonitors
+pub mod KeepsTo
+pub mod TriedWatched
+pub mod Least
+pub mod Endless
+pub mod Faultless
+pub mod Unused
+pub mod CanEnd
+pub mod TriedBounded
 pub mod DeadByList
 pub mod Caught
 pub mod CaughtWalk
@@ -38,3 +50,4 @@ pub mod Enough
 pub mod ChosenOutcomes
 pub mod OneObject
 mod Rows
+mod WatchedRows

@@ -13,3 +13,10 @@ pub mod TriedAt
 pub mod Outcomes
 pub mod Tried
 pub mod Moves
+pub mod Monitors
+pub mod Bounded
+pub mod PatternMonitors
+pub mod TriedWatched
+pub mod Unused
+pub mod CanEnd
+pub mod TriedBounded

@@ -1,6 +1,6 @@
 -- Lists of a search with stubborn sets that puts off no label for ever: from each configuration, labels that were tried
 -- lead on to a configuration in which all labels were tried.
-use Rattle.std.specs.Prelude.{◌≡◌, ℕ, List, Some, Bool, true, ◌<◌}
+use Rattle.std.specs.Prelude.{◌≡◌, ℕ, List, Some, Bool, true}
 use Rattle.run_types.specs.declared.types.Label.{Label}
 use Rattle.pool_syntax.specs.Terms.{ProgramTree}
 use Rattle.pool_relation.specs.Configuration.{Configuration}

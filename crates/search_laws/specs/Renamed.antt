@@ -1,9 +1,5 @@
 -- Renamings: the same values, terms, objects, messages, labels and configurations with other names of objects.
 use Rattle.std.specs.Prelude.{◌≡◌, ℕ, [], ◌∷◌, Option, Some, None, option_map, map}
-use Rattle.run_types.specs.declared.types.Value.{Value}
-use Rattle.run_types.specs.declared.types.Value.TheVariants as V
-use Rattle.run_types.specs.declared.types.Item.{Item}
-use Rattle.run_types.specs.declared.types.Item.TheVariants as I
 use Rattle.run_types.specs.declared.types.Label.{Label}
 use Rattle.run_types.specs.declared.types.Label.TheVariants as L
 use Rattle.pool_syntax.specs.Terms.{Store, Expression, Literal, Me, Variable, Create, Prefix, Infix, Call, Send, Frame, Wait, Expressions, NoArgs, Arg, Statement, Assign, Write, WriteText, Do, Async}

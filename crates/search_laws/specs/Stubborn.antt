@@ -1,5 +1,5 @@
 -- Lists of a search for ends with stubborn sets, and which labels of one object are such a set.
-use Rattle.std.specs.Prelude.{◌==◌, ◌||◌, ◌<◌, ◌≤◌, if◌then◌else◌, map, is_some, None, ◌≡◌, ℕ, List, [], ◌∷◌, Some, Bool, true, false, not, ◌&&◌}
+use Rattle.std.specs.Prelude.{◌==◌, ◌||◌, ◌<◌, ◌≤◌, if◌then◌else◌, map, is_some, None, ◌≡◌, ℕ, List, Some, Bool, true, false}
 use Rattle.run_types.specs.declared.types.Label.{Label}
 use Rattle.run_types.specs.declared.types.Label.TheVariants as L
 use Rattle.pool_syntax.specs.Terms.{ProgramTree}
@@ -8,8 +8,8 @@ use Rattle.pool_relation.specs.Action.{Object, Action, action}
 use Rattle.pool_relation.specs.Configuration.{Configuration, object_of, messages_of}
 use Rattle.search_laws.specs.Renamed.{renamed_object, renamed_message}
 pub use Rattle.search_laws.specs.StubbornSets.{are_others, makes_one, IsStubborn}
-use Rattle.pool_relation.specs.Transition.{transition, run, start}
-use Rattle.reachability.specs.Search.{IsIn, IsInOrder, after, names_next, in_order}
+use Rattle.pool_relation.specs.Transition.{transition, start}
+use Rattle.reachability.specs.Search.{IsIn, IsInOrder, after, names_next}
 use Rattle.search_laws.specs.ClosedLists.{Settles}
 
 -- if the label is possible, it leads into the list, after some transitions that need no choice

@@ -3,8 +3,7 @@ use Rattle.std.specs.Prelude.{◌≡◌, ℕ, List, Some, Bool, true, ◌<◌}
 use Rattle.run_types.specs.declared.types.Label.{Label}
 use Rattle.pool_syntax.specs.Terms.{ProgramTree}
 use Rattle.pool_relation.specs.Configuration.{Configuration}
-use Rattle.pool_relation.specs.Transition.{transition, start}
-use Rattle.reachability.specs.Search.{IsIn, IsInOrder, after, names_next}
+use Rattle.pool_relation.specs.Transition.{transition}
 use Rattle.search_laws.specs.FreeSettling.{SettlesFreely}
 use Rattle.search_laws.specs.StubbornSets.{IsStubborn}
 use Rattle.search_laws.specs.PutOff.{LeadsFreely}

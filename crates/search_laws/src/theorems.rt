@@ -1,5 +1,5 @@
 //! The theorems about searches. Each is the contract of a function with an empty body.
-ghost use Rattle.std.specs.Prelude.{◌≡◌, ℕ, List, Option, None, Some, map, true};
+ghost use Rattle.std.specs.Prelude.{◌≡◌, ◌≤◌, ◌++◌, ℕ, List, Option, None, Some, Bool, length, map, true, false};
 ghost use Rattle.pool_syntax.specs.declared.tree.Program.{Program};
 ghost use Rattle.run_types.specs.declared.types.Item.{Item};
 ghost use Rattle.run_types.specs.declared.types.Label.{Label};
@@ -8,20 +8,28 @@ ghost use Rattle.pool_syntax.specs.TreeOf.{program_of};
 ghost use Rattle.run_types.specs.Message.{Message};
 ghost use Rattle.pool_relation.specs.Action.{Object};
 ghost use Rattle.pool_relation.specs.Configuration.{Configuration, object_of, put_object};
-ghost use Rattle.pool_relation.specs.Transition.{transition, run};
+ghost use Rattle.pool_relation.specs.Transition.{transition, run, start};
 ghost use Rattle.search_laws.specs.Renamed.{Renaming, renamed_item, renamed_program, renamed_label, IsRenamed, IsNameless};
 ghost use Rattle.reachability.specs.Labels.{IsAmong, labels_to_try};
 ghost use Rattle.search_laws.specs.Tried.{IsTried, states_only, with_writes, state_of};
 ghost use Rattle.reachability.specs.Search.{WaitsAt, IsReached, IsAtEnd, IsStuck, IsUnfinished, IsFaulty, IsIn, names_next};
-ghost use Rattle.reachability.specs.Outcomes.{EndsWith, IsOneOf, all_name_none};
+ghost use Rattle.reachability.specs.Outcomes.{EndsWith, IsOneOf, all_name_none, written};
 ghost use Rattle.search_laws.specs.ClosedLists.{IsClosedSearch, Settles, IsClosedAfterSettling};
 ghost use Rattle.search_laws.specs.Dead.{IsDead, HasDead, CanGoOn};
 ghost use Rattle.search_laws.specs.ClosedBeside.{beside, IsClosedBeside, IsReachedInOrder};
 ghost use Rattle.search_laws.specs.Stubborn.{IsStubborn, IsAwaited, is_served, IsWholeForEnds};
-ghost use Rattle.search_laws.specs.PutOff.{IsClosedByChoices, IsWholeByChoices};
+ghost use Rattle.search_laws.specs.PutOff.{any, IsClosedByChoices, IsWholeByChoices};
 ghost use Rattle.search_laws.specs.Caught.{IsCaught, is_caught};
 ghost use Rattle.search_laws.specs.Outcomes.{Passed, IsWholeWith, IsWholeWithChoices, IsKeptEnd, EndsAlike, HasAllEnds};
 ghost use Rattle.search_laws.specs.Moves.{by_moves, Rests, posted, HaveReceivers};
+ghost use Rattle.search_laws.specs.Monitors.{Monitor, reads, IgnoresNames, IsReachedWriting, Watched, IsWatched, IsClosedWatched, IsWholeWatched, LeadsOnTo, CanCome, IsKeptWatched};
+ghost use Rattle.search_laws.specs.Bounded.{costs, IsOfKinds, Bounded, IsWholeBounded, IsWholeAbove, ComesBack, HasLongRuns};
+ghost use Rattle.search_laws.specs.TriedWatched.{IsTriedWatched};
+ghost use Rattle.search_laws.specs.CanEnd.{CanEnd};
+ghost use Rattle.search_laws.specs.TriedBounded.{IsTriedBounded};
+ghost use Rattle.search_laws.specs.Unused.{all_free, IsOfNoNames, IsWholeAndFree};
+ghost use Rattle.patterns.specs.Patterns.{Pattern, Matches, is_nullable, is_void, BeginsOne};
+ghost use Rattle.search_laws.specs.PatternMonitors.{left_of};
 
 /// A one-to-one renaming of objects keeps transitions. The renamed label is possible in the renamed configuration
 /// exactly if the label is possible, and then leads to the renamed configuration after it.
@@ -181,4 +189,80 @@ pub fn transitions_are_moves_of_objects()
     ensures moves { (p : ProgramTree) (c : Configuration) (l : Label) → transition p c l ≡ by_moves p c l }
     ensures by_itself { (p : ProgramTree) (o : ℕ) (c : Configuration) (x z : Object) (ms : List (ℕ × Message)) → HaveReceivers (put_object c o x) ms → Rests p o x ms z
         → Settles p (put_object c o x) (put_object (posted c o ms) o z) }
+{}
+
+/// Each run can be continued without writing anything to a configuration of a list that holds the states of a monitor,
+/// with the state in which the run leaves the monitor. The list is that of a search that puts off no label for ever. So a
+/// test that all states of the list pass is passed after each run, and so at each moment of a run that never ends. The
+/// list has the end of each run with its state. If each configuration of the list can come to a state that is wanted, so
+/// can each configuration that a run reaches. If no state of a part of the list is wanted, and no label leaves the part,
+/// no run from there comes to a wanted state.
+pub fn each_run_leads_on_to_the_list()
+    ensures leads_on { (p : ProgramTree) (m : Monitor ℕ) (es : List (Watched ℕ)) (w : List Item) (d : Configuration) → IsNameless p → IgnoresNames ℕ m → IsWholeWatched ℕ p m es
+        → IsReachedWriting p w d → LeadsOnTo ℕ p m es (reads ℕ m m.first w) d }
+    ensures states { (p : ProgramTree) (m : Monitor ℕ) (es : List (Watched ℕ)) (test : ℕ → Bool) (w : List Item) (d : Configuration) → IsNameless p → IgnoresNames ℕ m → IsWholeWatched ℕ p m es
+        → ((n q : ℕ) (c : Configuration) → IsWatched ℕ n q c es → test q ≡ true) → IsReachedWriting p w d → test (reads ℕ m m.first w) ≡ true }
+    ensures ends { (p : ProgramTree) (m : Monitor ℕ) (es : List (Watched ℕ)) (w : List Item) (d : Configuration) → IsNameless p → IgnoresNames ℕ m → IsWholeWatched ℕ p m es
+        → IsReachedWriting p w d → IsAtEnd p d → IsKeptWatched ℕ es (reads ℕ m m.first w) d }
+    ensures can { (p : ProgramTree) (m : Monitor ℕ) (es : List (Watched ℕ)) (wanted : ℕ → Bool) (w : List Item) (d : Configuration) → IsNameless p → IgnoresNames ℕ m → IsWholeWatched ℕ p m es
+        → ((n q : ℕ) (c : Configuration) → IsWatched ℕ n q c es → CanCome ℕ p m wanted q c) → IsReachedWriting p w d → CanCome ℕ p m wanted (reads ℕ m m.first w) d }
+    ensures never { (p : ProgramTree) (m : Monitor ℕ) (es : List (Watched ℕ)) (wanted : ℕ → Bool) (n q : ℕ) (c : Configuration) → IsNameless p → IgnoresNames ℕ m → IsClosedWatched ℕ p m es
+        → ((n q : ℕ) (c : Configuration) → IsWatched ℕ n q c es → wanted q ≡ false) → IsWatched ℕ n q c es → IsReachedInOrder p n c → ¬ (CanCome ℕ p m wanted q c) }
+{}
+
+/// If each label that was tried leads to lower bounds, no run has more transitions than the bound at the start, and none
+/// costs more. The labels of a stubborn set are enough, whatever is put off.
+pub fn no_run_exceeds_the_bounds_of_its_list()
+    ensures length { (p : ProgramTree) (cost : Label → ℕ) (es : List Bounded) (k v root : ℕ) (c d : Configuration) (ls : List Label) → IsNameless p → IsOfKinds cost → IsWholeBounded p cost es k v
+        → start p root ≡ Some c → run p c ls ≡ Some d → length ls ≤ k }
+    ensures cost { (p : ProgramTree) (cost : Label → ℕ) (es : List Bounded) (k v root : ℕ) (c d : Configuration) (ls : List Label) → IsNameless p → IsOfKinds cost → IsWholeBounded p cost es k v
+        → start p root ≡ Some c → run p c ls ≡ Some d → costs cost ls ≤ v }
+    ensures least { (p : ProgramTree) (cost : Label → ℕ) (es : List (Watched ℕ)) (v root : ℕ) (c d : Configuration) (ls : List Label) → IsNameless p → IsOfKinds cost → IsWholeAbove p cost es v
+        → start p root ≡ Some c → run p c ls ≡ Some d → IsAtEnd p d → v ≤ costs cost ls }
+    ensures endless { (p : ProgramTree) (front loop : List Label) → ComesBack p front loop → HasLongRuns p }
+{}
+
+/// If nothing that is left of a pattern in a list is void, each run has written at each moment the beginning of a list of
+/// items that the pattern matches. So has a run that never ends. If what is left at each end is nullable, each run that
+/// ends wrote a whole one. If no configuration of the list is faulty, no run meets an error. If from each configuration
+/// something nullable can come, each run can be brought to a whole one.
+pub fn a_list_shows_that_all_runs_keep_to_a_pattern()
+    ensures begins { (p : ProgramTree) (r : Pattern) (es : List (Watched Pattern)) (w : List Item) (d : Configuration) → IsNameless p → IsWholeWatched Pattern p (left_of r) es
+        → ((n : ℕ) (q : Pattern) (c : Configuration) → IsWatched Pattern n q c es → is_void q ≡ false) → IsReachedWriting p w d → BeginsOne r w }
+    ensures ends { (p : ProgramTree) (r : Pattern) (es : List (Watched Pattern)) (w : List Item) (d : Configuration) → IsNameless p → IsWholeWatched Pattern p (left_of r) es
+        → ((n : ℕ) (q : Pattern) (c : Configuration) → IsWatched Pattern n q c es → IsAtEnd p c → is_nullable q ≡ true) → IsReachedWriting p w d → IsAtEnd p d → Matches r w }
+    ensures no_error { (p : ProgramTree) (r : Pattern) (es : List (Watched Pattern)) (w : List Item) (d : Configuration) → IsNameless p → IsWholeWatched Pattern p (left_of r) es
+        → ((n : ℕ) (q : Pattern) (c : Configuration) → IsWatched Pattern n q c es → ¬ (IsFaulty c)) → IsReachedWriting p w d → ¬ (IsFaulty d) }
+    ensures can { (p : ProgramTree) (r : Pattern) (es : List (Watched Pattern)) (w : List Item) (d : Configuration) → IsNameless p → IsWholeWatched Pattern p (left_of r) es
+        → ((n : ℕ) (q : Pattern) (c : Configuration) → IsWatched Pattern n q c es → CanCome Pattern p (left_of r) is_nullable q c) → IsReachedWriting p w d
+        → (last : Configuration) × (ls : List Label) × (run p d ls ≡ Some last) × Matches r (w ++ written ls) }
+{}
+
+/// A search that keeps what is left of a pattern may try the labels of one awaited object alone, where one of them leads
+/// to a later entry. Its list then is whole.
+pub fn a_tried_list_with_a_pattern_is_whole()
+    ensures { (p : ProgramTree) (r : Pattern) (es : List (Watched Pattern)) → IsNameless p → IsTriedWatched Pattern p (left_of r) es → IsWholeWatched Pattern p (left_of r) es }
+{}
+
+/// If all labels that a search has tried or followed are free, and it puts off no label for ever, each label of each run
+/// is free. So what no such label does, no run does.
+pub fn what_no_tried_label_does_no_run_does()
+    ensures { (p : ProgramTree) (free : Label → Bool) (es : List (ℕ × Configuration)) (root : ℕ) (c d : Configuration) (ls : List Label) → IsNameless p → IsOfNoNames free → IsWholeAndFree p free es
+        → start p root ≡ Some c → run p c ls ≡ Some d → all_free free ls ≡ true }
+{}
+
+/// If from each configuration of a list that puts off no label for ever some run comes to an end, each run can still be
+/// brought to an end. If no configuration of a part is an end, and no label that was tried leaves the part, no run from
+/// there ends.
+pub fn a_list_tells_from_where_runs_can_end()
+    ensures can { (p : ProgramTree) (es : List (ℕ × Configuration)) (d : Configuration) → IsNameless p → IsWholeByChoices p es
+        → ((n : ℕ) (c : Configuration) → IsIn n c es → CanEnd p c) → IsReached p d → CanEnd p d }
+    ensures never { (p : ProgramTree) (es : List (ℕ × Configuration)) (n : ℕ) (c : Configuration) → IsNameless p → IsClosedByChoices p any es
+        → ((n : ℕ) (c : Configuration) → IsIn n c es → ¬ (IsAtEnd p c)) → IsIn n c es → IsReachedInOrder p n c → ¬ (CanEnd p c) }
+{}
+
+/// A walk over the entries of a search that finds lower bounds after each label that was tried, all or those of one awaited
+/// object, has a whole list with bounds.
+pub fn a_tried_list_with_bounds_is_whole()
+    ensures { (p : ProgramTree) (cost : Label → ℕ) (es : List Bounded) (k v : ℕ) → IsNameless p → IsTriedBounded p cost es k v → IsWholeBounded p cost es k v }
 {}
