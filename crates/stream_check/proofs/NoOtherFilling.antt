@@ -20,7 +20,8 @@ use Rattle.record_check.specs.RecordJudgement.{IsRunOf, StillMoves, StopsAt, roo
 use Rattle.record_check.proofs.Laws.{labels_split, same_start}
 use Rattle.run_record.specs.Readable.{IsRecord, IsRecordFrom, IsReadableStep}
 use Rattle.stream_check.specs.Followed.{EndsWith}
-use Rattle.stream_check.specs.Filled.{AllAtRest, AreAtRest, HasFull, IsAtRest, IsFilled, IsFull, SaysTheSame, is_local, without_local, without_local_of}
+use Rattle.stream_check.specs.Filled.{AllAtRest, AreAtRest, IsAtRest, IsFilled, IsFull, SaysTheSame, is_local, without_local, without_local_of}
+use Rattle.stream_check.specs.FullLines.{HasFull}
 use Rattle.stream_check.proofs.KeptLines.{own_kept, quiet_without, without_split}
 use Rattle.stream_check.proofs.RootOfLines.{started_in_order}
 use Rattle.stream_check.proofs.AnyFilling.{AtRest, locals, meets_itself, own, same_own_meet, split_step, stays_impossible}

@@ -138,11 +138,3 @@ IsFilled p ls fs (V.No number redex) =
     × (is_local lab ≡ false) × HaveNoLocal stop.behind × (stop.made ≡ 0 → AreAtRest p stop.before d lab))
 IsFilled p ls fs (V.Moving o) =
     IsSame ls fs × ((still : StillMoves p fs o) × (before : List Line) × EndsWith fs before × AllAtRest p before still.last)
-
--- a line of these shows as many local transitions of one object as may be filled in
-pub record HasFull (ls : List Line) : Type 0 where
-  pub before : List Line
-  pub behind : List Line
-  pub object : ℕ
-  pub full : IsFull before object
-  pub whole : ls ≡ before ++ behind

@@ -5,3 +5,4 @@ pub mod Filled
 -- Internal: what it does not.
 pub mod Progress
 pub mod FillProgress
+pub mod FullLines

@@ -9,7 +9,8 @@ ghost use Rattle.run_types.specs.declared.verdicts.Verdict.{Verdict};
 ghost use Rattle.run_types.specs.declared.verdicts.Verdict.TheVariants as V;
 ghost use Rattle.record_check.specs.RecordJudgement.{IsRunOf};
 ghost use Rattle.run_record.specs.Readable.{IsRecord};
-ghost use Rattle.stream_check.specs.Filled.{HasFull, IsFilled, SaysTheSame};
+ghost use Rattle.stream_check.specs.Filled.{IsFilled, SaysTheSame};
+ghost use Rattle.stream_check.specs.FullLines.{HasFull};
 ghost use Rattle.stream_check.specs.Followed.{IsFollowed};
 ghost use Rattle.stream_check.specs.Stream.{has_end, stream_fault, stream_lines};
 
