@@ -14,7 +14,8 @@ use Rattle.pool_relation.specs.Action.{Object}
 use Rattle.pool_relation.specs.Configuration.{Configuration, object_of, put_object}
 use Rattle.pool_relation.specs.Transition.{transition}
 use Rattle.search_laws.specs.Tried.{Course, Follows, Stays, GoesBy}
-use Rattle.object_moves.specs.Effects.{local_move, strolled}
+use Rattle.object_moves.specs.Roles.{after_local, does}
+use Rattle.object_moves.specs.declared.parts.Role.TheVariants as R
 use Rattle.object_moves.specs.Followed.{course, passes}
 use Rattle.object_moves.specs.Known.{duo_label, labelled, moved_by, parcel_label}
 use Rattle.object_moves.specs.declared.known.Duo.{Duo}
@@ -76,10 +77,10 @@ module _ (p : ProgramTree) (k : Course) where
   passes_more c d e l (GoesBy {d = b} m m_kind m_step rest) kind step = ap (λ ls. m ∷ ls) (passes_more b d e l rest kind step)
 
 module _ (p : ProgramTree) (s : Bool) (o : ℕ) (c : Configuration) where
-  pub followed : (n : ℕ) (x z : Object) → strolled p o n x ≡ Some z → Follows p (course s) (put_object c o x) (put_object c o z)
+  pub followed : (n : ℕ) (x z : Object) → after_local p o n x ≡ Some z → Follows p (course s) (put_object c o x) (put_object c o z)
   followed zero x z e = subst (λ (w : Object). Follows p (course s) (put_object c o x) (put_object c o w)) (same_some e) Stays
   followed (suc n) x z e =
-      let g = given_by (strolled p o n x) (local_move p o) z e in
+      let g = given_by (after_local p o n x) (does p o R.Goes []) z e in
       let here : object_of (put_object c o g.0) o ≡ Some g.0 = find_put_same o g.0 c.objects in
       let made : transition p (put_object c o g.0) (L.Local o) ≡ Some (put_object (put_object c o g.0) o z) =
       local_here p (put_object c o g.0) o g.0 here ∙ ap (λ r. r >>= λ y. Some (put_object (put_object c o g.0) o y)) g.2

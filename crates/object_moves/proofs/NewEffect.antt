@@ -1,10 +1,9 @@
 -- An object that is made, in any configuration that has none of its name.
-use Rattle.std.proofs.Common.{◌≡◌, ◌≢◌, sym, ap, ◌∙◌, ℕ, Option, Some, None, is_none, Bool, true, ◌&&◌}
+use Rattle.std.proofs.Common.{◌≡◌, sym, ap, ◌∙◌, ℕ, Option, Some, None, is_none, Bool, true, ◌&&◌}
 use Rattle.run_types.specs.declared.types.Label.TheVariants as L
 use Rattle.run_types.specs.declared.types.NameId.{NameId}
 use Rattle.run_types.specs.declared.types.Value.TheVariants as V
 use Rattle.run_types.specs.Partial.{◌>>=◌, ◌>>◌, require}
-use Rattle.run_types.proofs.Laws.{given_by, same_some, find_put_same, find_put_other}
 use Rattle.pool_syntax.specs.Classes.{class_of}
 use Rattle.pool_syntax.specs.Terms.{ProgramTree}
 use Rattle.pool_relation.specs.Action.{Object, action}
@@ -12,7 +11,7 @@ use Rattle.pool_relation.specs.Configuration.{Configuration, object_of, put_obje
 use Rattle.pool_relation.specs.Transition.{transition, without_fault, makes, given, new_object}
 use Rattle.object_moves.specs.Effects.{effect_new}
 use Rattle.object_moves.proofs.MailEffect.{and_true}
-use Rattle.object_moves.proofs.OptionalSteps.{assoc, after_test, alike, none_before}
+use Rattle.object_moves.proofs.OptionalSteps.{assoc, after_test, alike}
 
 module _ (p : ProgramTree) (c : Configuration) (o n : ℕ) (k : NameId) (x : Object) (there : object_of c o ≡ Some x) (free : object_of c n ≡ None) where
   -- the configuration in which the object is so, and the new one is there
@@ -46,16 +45,3 @@ module _ (p : ProgramTree) (c : Configuration) (o n : ℕ) (k : NameId) (x : Obj
 
   pub new_none : effect_new p (L.New o n k) x ≡ None → transition p c (L.New o n k) ≡ None
   new_none none = new_made ∙ ap (λ r. r >>= λ e. Some (born e)) none
-
-  -- the effect, from the transition
-  pub new_told : (d : Configuration) → o ≢ n → transition p c (L.New o n k) ≡ Some d
-      → (e : Object × Object) × (effect_new p (L.New o n k) x ≡ Some e) × (object_of d o ≡ Some e.0) × (object_of d n ≡ Some e.1)
-  new_told d apart is =
-      let g = given_by (effect_new p (L.New o n k) x) (λ e. Some (born e)) d (sym new_made ∙ is) in
-      let same : born g.0 ≡ d = same_some g.2 in
-      let maker : object_of (born g.0) o ≡ Some g.0.0 = find_put_other o n g.0.1 (put_object c o g.0.0).objects apart ∙ find_put_same o g.0.0 c.objects in
-      let new : object_of (born g.0) n ≡ Some g.0.1 = find_put_same n g.0.1 (put_object c o g.0.0).objects in
-      (g.0, g.1, ap (λ (z : Configuration). object_of z o) (sym same) ∙ maker, ap (λ (z : Configuration). object_of z n) (sym same) ∙ new)
-
-  pub no_new_told : transition p c (L.New o n k) ≡ None → effect_new p (L.New o n k) x ≡ None
-  no_new_told none = none_before (effect_new p (L.New o n k) x) born (sym new_made ∙ none)

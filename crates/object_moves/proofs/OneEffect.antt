@@ -1,16 +1,17 @@
 -- A transition that one object makes alone, in any configuration.
-use Rattle.std.proofs.Common.{◌≡◌, refl, sym, ap, ◌∙◌, ℕ, Option, Some, None, true, arith}
+use Rattle.std.proofs.Common.{◌≡◌, sym, ap, ◌∙◌, ℕ, [], Option, Some, true, arith}
 use Rattle.run_types.specs.declared.types.Label.{Label}
 use Rattle.run_types.specs.declared.types.Label.TheVariants as L
 use Rattle.run_types.specs.Partial.{◌>>=◌, ◌>>◌, require}
-use Rattle.run_types.proofs.Laws.{given_by, same_some, find_put_same}
 use Rattle.pool_syntax.specs.Terms.{ProgramTree}
 use Rattle.pool_relation.specs.Reducible.{AsStatements}
 use Rattle.pool_relation.specs.Action.{Object, action}
 use Rattle.pool_relation.specs.Configuration.{Configuration, object_of, put_object}
 use Rattle.pool_relation.specs.Progress.{agent}
 use Rattle.pool_relation.specs.Transition.{transition, running, without_fault, local_step, writes, fails, picked, refilled, done}
-use Rattle.object_moves.specs.Effects.{effect_one, is_of_one, local_move}
+use Rattle.object_moves.specs.Effects.{effect_one, is_of_one}
+use Rattle.object_moves.specs.Roles.{does}
+use Rattle.object_moves.specs.declared.parts.Role.TheVariants as R
 use Rattle.object_moves.proofs.OptionalSteps.{assoc, after_test, alike}
 
 -- a step of the running object o, and what is put in its place
@@ -38,26 +39,12 @@ module _ (p : ProgramTree) (c : Configuration) where
   one_made (L.Send o b m args) h = absurd (grind (arith, h))
   one_made (L.Take b s m args) h = absurd (grind (arith, h))
 
-  pub local_made : (o : ℕ) → transition p c (L.Local o) ≡ (object_of c o >>= λ x. local_move p o x >>= λ y. Some (put_object c o y))
+  pub local_made : (o : ℕ) → transition p c (L.Local o) ≡ (object_of c o >>= λ x. does p o R.Goes [] x >>= λ y. Some (put_object c o y))
   local_made o = by_object c o (λ a. local_step a (action p o a))
 
   -- where the object is there
   pub one_here : (l : Label) (x : Object) → is_of_one l ≡ true → object_of c (agent l) ≡ Some x → transition p c l ≡ (effect_one p l x >>= λ y. Some (put_object c (agent l) y))
   one_here l x h there = one_made l h ∙ ap (λ r. r >>= λ x. effect_one p l x >>= λ y. Some (put_object c (agent l) y)) there
 
-  pub local_here : (o : ℕ) (x : Object) → object_of c o ≡ Some x → transition p c (L.Local o) ≡ (local_move p o x >>= λ y. Some (put_object c o y))
-  local_here o x there = local_made o ∙ ap (λ r. r >>= λ x. local_move p o x >>= λ y. Some (put_object c o y)) there
-
-  -- the effect, from the transition
-  pub one_told : (l : Label) (x : Object) (d : Configuration) → is_of_one l ≡ true → object_of c (agent l) ≡ Some x → transition p c l ≡ Some d
-      → (y : Object) × (effect_one p l x ≡ Some y) × (object_of d (agent l) ≡ Some y)
-  one_told l x d h there made =
-      let g = given_by (effect_one p l x) (λ y. Some (put_object c (agent l) y)) d (sym (one_here l x h there) ∙ made) in
-      (g.0, g.1, ap (λ e. object_of e (agent l)) (sym (same_some g.2)) ∙ find_put_same (agent l) g.0 c.objects)
-
-  pub none_told : (l : Label) (x : Object) → is_of_one l ≡ true → object_of c (agent l) ≡ Some x → transition p c l ≡ None → effect_one p l x ≡ None
-  none_told l x h there none = nothing (effect_one p l x) (sym (one_here l x h there) ∙ none)
-    where
-      nothing : (m : Option Object) → (m >>= λ y. Some (put_object c (agent l) y)) ≡ None → m ≡ None
-      nothing None e = refl
-      nothing (Some y) e = absurd (grind (arith, e))
+  pub local_here : (o : ℕ) (x : Object) → object_of c o ≡ Some x → transition p c (L.Local o) ≡ (does p o R.Goes [] x >>= λ y. Some (put_object c o y))
+  local_here o x there = local_made o ∙ ap (λ r. r >>= λ x. does p o R.Goes [] x >>= λ y. Some (put_object c o y)) there

@@ -11,7 +11,8 @@ use Rattle.pool_relation.specs.Action.{Object}
 use Rattle.pool_relation.specs.Configuration.{Configuration, object_of, put_object}
 use Rattle.pool_relation.specs.Transition.{transition}
 use Rattle.search_laws.specs.Tried.{Follows}
-use Rattle.object_moves.specs.Effects.{effect_one, effect_two, strolled}
+use Rattle.object_moves.specs.Effects.{effect_one, effect_two}
+use Rattle.object_moves.specs.Roles.{after_local}
 use Rattle.object_moves.specs.Followed.{course}
 use Rattle.object_moves.specs.Known.{duo_label, labelled, solo_label, state_at}
 use Rattle.object_moves.specs.Rows.{row, AreWithin}
@@ -92,7 +93,7 @@ module _ (p : ProgramTree) (xs : List Object) (ns : List ℕ) (ms : List (Pair �
 
   -- local transitions
   pub rest_leads : (ys : List Object) (o k n : ℕ) (s : Bool) → take (length xs) ys ≡ xs → AreWithin xs ns → o < length ns
-      → strolled p o k (state_at xs (get_or ns o 0)) ≡ Some (state_at ys n) → Follows p (course s) (row xs ns ms) (row ys (set ns o n) ms)
+      → after_local p o k (state_at xs (get_or ns o 0)) ≡ Some (state_at ys n) → Follows p (course s) (row xs ns ms) (row ys (set ns o n) ms)
   rest_leads ys o k n s grown within l is =
       let x = state_at xs (get_or ns o 0) in
       let there : put_object (row ys ns ms) o x ≡ row xs ns ms =

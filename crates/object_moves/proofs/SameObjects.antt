@@ -10,7 +10,7 @@ use Rattle.pool_syntax.specs.declared.tree.Named.{Named}
 use Rattle.pool_syntax.specs.Terms as T
 use Rattle.pool_syntax.specs.Terms.{Store, Expression, Expressions, Statement, Statements, Alternatives}
 use Rattle.pool_relation.specs.Action.{Object}
-use Rattle.object_moves.specs.SameObjects.{op_number, same_store, same_names, same_caller, same_answer, same_expression, same_expressions, same_statement, same_statements, same_alternatives, same_fault, same_object, same_one, same_two}
+use Rattle.object_moves.specs.SameObjects.{op_number, same_store, same_names, same_caller, same_answer, same_expression, same_expressions, same_statement, same_statements, same_alternatives, same_fault, same_object, same_one}
 
 -- the operator with this number
 abbrev op_at : ℕ → Op
@@ -314,20 +314,6 @@ one_itself : (x : Option Object) → same_one x x ≡ true
 one_itself None = refl
 one_itself (Some x) = object_itself x
 
-pub two_is : (x y : Option (Object × Object)) → same_two x y ≡ true → x ≡ y
-two_is None None h = refl
-two_is (Some x) (Some y) h =
-    ap₂ (λ a b. Some (a, b)) (object_is x.0 y.0 (first (same_object x.0 y.0) (same_object x.1 y.1) h)) (object_is x.1 y.1 (second (same_object x.0 y.0) (same_object x.1 y.1) h))
-two_is None (Some y) h = absurd (grind (arith, h))
-two_is (Some x) None h = absurd (grind (arith, h))
-
-two_itself : (x : Option (Object × Object)) → same_two x x ≡ true
-two_itself None = refl
-two_itself (Some x) = both (same_object x.0 x.0) (same_object x.1 x.1) (object_itself x.0) (object_itself x.1)
-
 -- what is equal is told
 pub one_told : (x y : Option Object) → x ≡ y → same_one x y ≡ true
 one_told x y e = ap (same_one x) (sym e) ∙ one_itself x
-
-pub two_told : (x y : Option (Object × Object)) → x ≡ y → same_two x y ≡ true
-two_told x y e = ap (same_two x) (sym e) ∙ two_itself x

@@ -1,11 +1,10 @@
 -- An answer or a return, in any configuration where no message waits.
-use Rattle.std.proofs.Common.{◌≡◌, ◌≢◌, refl, sym, ap, ap₂, subst, ◌∙◌, ℕ, List, [], length, Option, Some, None, not, ◌&&◌, arith}
+use Rattle.std.proofs.Common.{◌≡◌, refl, sym, ap, ap₂, subst, ◌∙◌, ℕ, List, [], length, Option, Some, None, not, ◌&&◌}
 use Rattle.run_types.specs.declared.types.Label.{Label}
 use Rattle.run_types.specs.declared.types.Label.TheVariants as L
 use Rattle.run_types.specs.declared.types.NameId.{NameId}
 use Rattle.run_types.specs.declared.types.Value.{Value}
 use Rattle.run_types.specs.Partial.{◌>>=◌, ◌>>◌, require}
-use Rattle.run_types.proofs.Laws.{given_by, same_some, find_put_same, find_put_other}
 use Rattle.pool_syntax.specs.Terms as T
 use Rattle.pool_syntax.specs.Terms.{MethodTree, ProgramTree}
 use Rattle.pool_relation.specs.Reducible.{AsExpression}
@@ -104,40 +103,3 @@ module _ (p : ProgramTree) (c : Configuration) (r s : ℕ) (y x : Object) (there
   two_made (L.Write o item) h none = absurd h
   two_made (L.Pick o i) h none = absurd h
   two_made (L.Fault o e) h none = absurd h
-
-  -- both objects, after it
-  placed_both : (l : Label) (e : Object × Object) → r ≢ s → (object_of (placed c l r s e) r ≡ Some e.0) × (object_of (placed c l r s e) s ≡ Some e.1)
-  placed_both l e apart = by l
-    where
-      first : (object_of (put_object (put_object c r e.0) s e.1) r ≡ Some e.0) × (object_of (put_object (put_object c r e.0) s e.1) s ≡ Some e.1)
-      first = (find_put_other r s e.1 (put_object c r e.0).objects apart ∙ find_put_same r e.0 c.objects, find_put_same s e.1 (put_object c r e.0).objects)
-
-      second : (object_of (put_object (put_object c s e.1) r e.0) r ≡ Some e.0) × (object_of (put_object (put_object c s e.1) r e.0) s ≡ Some e.1)
-      second = (find_put_same r e.0 (put_object c s e.1).objects, find_put_other s r e.0 (put_object c s e.1).objects (λ i. apart (sym i)) ∙ find_put_same s e.1 c.objects)
-
-      by : (l : Label) → (object_of (placed c l r s e) r ≡ Some e.0) × (object_of (placed c l r s e) s ≡ Some e.1)
-      by (L.Return b o v) = first
-      by (L.Answer b o m args) = second
-      by (L.Local o) = second
-      by (L.New o n k) = second
-      by (L.Send o b m args) = second
-      by (L.Take b t m args) = second
-      by (L.Write o item) = second
-      by (L.Pick o i) = second
-      by (L.Fault o f) = second
-
-  -- the effect, from the transition
-  pub two_told : (l : Label) (d : Configuration) → IsBetween l r s → r ≢ s → messages_of c s r ≡ [] → transition p c l ≡ Some d
-      → (e : Object × Object) × (effect_two p l y x ≡ Some e) × (object_of d r ≡ Some e.0) × (object_of d s ≡ Some e.1)
-  two_told l d h apart none made =
-      let g = given_by (effect_two p l y x) (λ e. Some (placed c l r s e)) d (sym (two_made l h none) ∙ made) in
-      let both = placed_both l g.0 apart in
-      let is : placed c l r s g.0 ≡ d = same_some g.2 in
-      (g.0, g.1, ap (λ (z : Configuration). object_of z r) (sym is) ∙ both.0, ap (λ (z : Configuration). object_of z s) (sym is) ∙ both.1)
-
-  pub no_two_told : (l : Label) → IsBetween l r s → messages_of c s r ≡ [] → transition p c l ≡ None → effect_two p l y x ≡ None
-  no_two_told l h none failed = nothing (effect_two p l y x) (sym (two_made l h none) ∙ failed)
-    where
-      nothing : (m : Option (Object × Object)) → (m >>= λ e. Some (placed c l r s e)) ≡ None → m ≡ None
-      nothing None e = refl
-      nothing (Some z) e = absurd (grind (arith, e))

@@ -1,37 +1,16 @@
 -- What a transition makes of the one or two objects that take part in it. Nothing else decides it, but for messages
 -- that wait.
-use Rattle.std.specs.Prelude.{◌≡◌, ℕ, zero, suc, [], ◌∷◌, length, Option, Some, None, Bool, true, false, ◌&&◌}
-use Rattle.std.specs.Ordering.{nat_cmp}
-use Rattle.std.specs.FinMap.{put}
+use Rattle.std.specs.Prelude.{◌≡◌, ℕ, length, Option, Some, None, Bool, true, false, ◌&&◌}
 use Rattle.run_types.specs.declared.types.Label.{Label}
 use Rattle.run_types.specs.declared.types.Label.TheVariants as L
 use Rattle.run_types.specs.declared.types.Value.TheVariants as V
 use Rattle.pool_syntax.specs.Classes.{class_of}
-use Rattle.run_types.specs.Message.{Message}
 use Rattle.run_types.specs.Partial.{◌>>=◌, ◌>>◌, require}
 use Rattle.pool_syntax.specs.Terms as T
 use Rattle.pool_syntax.specs.Terms.{ProgramTree}
 use Rattle.pool_relation.specs.Reducible.{AsExpression, AsStatements}
 use Rattle.pool_relation.specs.Action.{Object, method_of, action}
-use Rattle.pool_relation.specs.Configuration.{Configuration}
-use Rattle.pool_relation.specs.Transition.{without_fault, local_step, makes, calls, returns, waits_on, writes, fails, picked, posts, offer, refilled, done, returned, given, serving, new_object}
-
--- the configuration without objects
-abbrev pub nothing : Configuration
-nothing = record { objects = []; messages = [] }
-
--- the configuration in which the object is alone
-abbrev pub alone : ℕ → Object → Configuration
-alone o x = record { objects = (o, x) ∷ []; messages = [] }
-
--- the configuration of these two objects
-abbrev pub together : ℕ → Object → ℕ → Object → Configuration
-together o x b y = record { objects = put nat_cmp b y ((o, x) ∷ []); messages = [] }
-
--- the configuration with this object under two names, and with a message from the second to the first. If the names are
--- the same, there is one object.
-abbrev pub with_message : ℕ → Object → ℕ → Message → Configuration
-with_message o x b m = record { objects = put nat_cmp b x ((o, x) ∷ []); messages = ((b, o), m ∷ []) ∷ [] }
+use Rattle.pool_relation.specs.Transition.{without_fault, makes, calls, returns, waits_on, writes, fails, picked, posts, offer, refilled, done, returned, given, serving, new_object}
 
 -- it is the label of a transition that one object makes alone: a write, a pick or an error
 abbrev pub is_of_one : Label → Bool
@@ -75,12 +54,3 @@ module _ (p : ProgramTree) where
   abbrev pub effect_new : Label → Object → Option (Object × Object)
   effect_new (L.New o n k) x = without_fault x x.fault >>= λ a. require (makes (action p o a) k.0) >> (class_of p k.0 >>= λ class. Some (given a (V.Ref n), new_object class))
   effect_new _ x = None
-
-  -- the object after one local transition
-  abbrev pub local_move : ℕ → Object → Option Object
-  local_move o x = without_fault x x.fault >>= λ a. local_step a (action p o a)
-
-  -- the object after this number of local transitions
-  abbrev pub strolled : ℕ → ℕ → Object → Option Object
-  strolled o zero x = Some x
-  strolled o (suc k) x = strolled o k x >>= local_move o

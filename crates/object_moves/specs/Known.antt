@@ -6,9 +6,9 @@ use Rattle.run_types.specs.declared.types.Label.TheVariants as L
 use Rattle.pool_syntax.specs.Terms.{ProgramTree}
 use Rattle.pool_relation.specs.Action.{Object}
 use Rattle.run_types.specs.Message.{Message}
-use Rattle.object_moves.specs.Effects.{effect_mail, effect_new, effect_one, effect_two, strolled}
+use Rattle.object_moves.specs.Roles.{after, after_local}
 use Rattle.object_moves.specs.Rows.{no_object, AreWithin}
-use Rattle.object_moves.specs.SameObjects.{same_one, same_two}
+use Rattle.object_moves.specs.SameObjects.{same_one}
 use Rattle.object_moves.specs.declared.known.Solo.{Solo}
 use Rattle.object_moves.specs.declared.known.Solo.TheVariants as S
 use Rattle.object_moves.specs.declared.known.Duo.{Duo}
@@ -17,11 +17,8 @@ use Rattle.object_moves.specs.declared.known.One.{One}
 use Rattle.object_moves.specs.declared.known.One.TheVariants as O
 use Rattle.object_moves.specs.declared.known.Two.{Two}
 use Rattle.object_moves.specs.declared.known.Two.TheVariants as W
-use Rattle.object_moves.specs.declared.known.KnownOne.{KnownOne}
-use Rattle.object_moves.specs.declared.known.KnownMail.{KnownMail}
 use Rattle.object_moves.specs.declared.known.Birth.{Birth}
-use Rattle.object_moves.specs.declared.known.KnownNew.{KnownNew}
-use Rattle.object_moves.specs.declared.known.KnownTwo.{KnownTwo}
+use Rattle.object_moves.specs.declared.known.KnownEdge.{KnownEdge}
 use Rattle.object_moves.specs.declared.known.KnownRest.{KnownRest}
 
 -- the label of a transition that the object o makes alone
@@ -81,33 +78,14 @@ numbers_of_two W.Impossible = []
 numbers_of_two (W.To n m) = n ∷ m ∷ []
 
 module _ (p : ProgramTree) (xs : List Object) where
-  -- what is known of a transition of one object is so
-  pub record IsKnownOne (k : KnownOne) : Type 0 where
+  -- what is known of the part of an object is so
+  pub record IsKnownEdge (k : KnownEdge) : Type 0 where
     pub state : k.state < length xs
     pub within : AreWithin xs (numbers_of_one k.to)
-    pub is : same_one (effect_one p (solo_label k.object k.act) (state_at xs k.state)) (one_of xs k.to) ≡ true
-
-  -- what is known of a message that is sent or taken is so
-  pub record IsKnownMail (k : KnownMail) : Type 0 where
-    pub state : k.state < length xs
-    pub within : AreWithin xs (numbers_of_one k.to)
-    pub is : same_one (effect_mail p (parcel_label k.object k.act) (state_at xs k.state)) (one_of xs k.to) ≡ true
-
-  -- what is known of an object that is made is so
-  pub record IsKnownNew (k : KnownNew) : Type 0 where
-    pub state : k.birth.state < length xs
-    pub within : AreWithin xs (numbers_of_two k.to)
-    pub is : same_two (effect_new p (birth_label k.birth) (state_at xs k.birth.state)) (two_of xs k.to) ≡ true
-
-  -- what is known of a transition of two objects is so
-  pub record IsKnownTwo (k : KnownTwo) : Type 0 where
-    pub serving : k.pair.serving < length xs
-    pub asking : k.pair.asking < length xs
-    pub within : AreWithin xs (numbers_of_two k.to)
-    pub is : same_two (effect_two p (duo_label k.pair.receiver k.pair.caller k.act) (state_at xs k.pair.serving) (state_at xs k.pair.asking)) (two_of xs k.to) ≡ true
+    pub is : same_one (after p k.object k.part (state_at xs k.state)) (one_of xs k.to) ≡ true
 
   -- local transitions lead there
   pub record IsKnownRest (k : KnownRest) : Type 0 where
     pub state : k.state < length xs
     pub within : k.to < length xs
-    pub leads : same_one (strolled p k.object k.steps (state_at xs k.state)) (Some (state_at xs k.to)) ≡ true
+    pub leads : same_one (after_local p k.object k.steps (state_at xs k.state)) (Some (state_at xs k.to)) ≡ true

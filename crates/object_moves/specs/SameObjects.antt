@@ -97,13 +97,8 @@ same_fault _ _ = false
 abbrev pub same_object : Object → Object → Bool
 same_object x y = (x.class == y.class) && (same_store x.vars y.vars && (same_statements x.term y.term && same_fault x.fault y.fault))
 
--- the same of two optional objects, and of two optional pairs
+-- the same of two optional objects
 abbrev pub same_one : Option Object → Option Object → Bool
 same_one None None = true
 same_one (Some x) (Some y) = same_object x y
 same_one _ _ = false
-
-abbrev pub same_two : Option (Object × Object) → Option (Object × Object) → Bool
-same_two None None = true
-same_two (Some x) (Some y) = same_object x.0 y.0 && same_object x.1 y.1
-same_two _ _ = false

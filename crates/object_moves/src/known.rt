@@ -1,7 +1,8 @@
 //! What a table of moves knows.
 ghost use Rattle.std.specs.Prelude.{◌≡◌, Some, None, true, false};
 
-use pool_semantics::Mail;
+use crate::parts::Part;
+use message_queue::Mail;
 use run_types::{Args, Error, Item, NameId, Value};
 
 /// A transition that one object makes alone, but no local one.
@@ -133,12 +134,12 @@ pub struct Pair {
     pub asking: u32,
 }
 
-/// A transition of the object of this name in this state.
+/// Where the part of the object of this name, in this state, leads.
 #[derive(Clone, Copy)]
-pub struct KnownOne {
+pub struct KnownEdge {
     pub object: u32,
     pub state: u32,
-    pub act: Solo,
+    pub part: Part,
     pub to: One,
 }
 
@@ -149,30 +150,6 @@ pub struct Birth {
     pub state: u32,
     pub name: u32,
     pub class: NameId,
-}
-
-/// A transition that makes an object. `to` is what its maker and the new object then are.
-#[derive(Clone, Copy)]
-pub struct KnownNew {
-    pub birth: Birth,
-    pub to: Two,
-}
-
-/// A message that the object of this name sends or takes in this state.
-#[derive(Clone, Copy)]
-pub struct KnownMail {
-    pub object: u32,
-    pub state: u32,
-    pub act: Parcel,
-    pub to: One,
-}
-
-/// A transition of two objects.
-#[derive(Clone, Copy)]
-pub struct KnownTwo {
-    pub pair: Pair,
-    pub act: Duo,
-    pub to: Two,
 }
 
 /// The state of an object after its local transitions, how many they are, and what it makes next.

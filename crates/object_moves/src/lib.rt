@@ -4,15 +4,16 @@
 //! Does not know: which configurations a search keeps.
 #![tactic(auto)]
 
+mod changes;
+mod equality;
+mod hashes;
 mod known;
-mod labels;
 mod mails;
+mod parts;
 mod rows;
-mod small;
-mod steps;
 mod table;
 
+pub use equality::same_values;
 pub use known::Lead;
-pub use labels::same_values;
 pub use rows::push_movers;
 pub use table::MoveTable;

@@ -6,8 +6,8 @@ ghost use Rattle.pool_semantics.specs.Mails.{posts};
 ghost use Rattle.object_moves.specs.Known.{parcel_message};
 ghost use Rattle.object_moves.specs.Waiting.{IsGone, IsMoved, IsTaken, is_next};
 
+use crate::equality::same_values;
 use crate::known::{Lead, Parcel};
-use crate::labels::same_values;
 use message_queue::{Mail, MessageQueue};
 use pool_semantics::{post, unpost};
 use run_types::NameId;

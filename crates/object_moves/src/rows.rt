@@ -11,9 +11,9 @@ ghost use Rattle.run_types.specs.Message.{Message};
 ghost use Rattle.pool_semantics.specs.Mails.{posts};
 ghost use Rattle.object_moves.specs.Rows.{AreWithin, row};
 
+use crate::changes::MOST;
 use crate::known::{Birth, Duo, Lead, Next, One, Pair, Parcel, Solo, Two};
 use crate::mails::{change_messages, waits};
-use crate::small::MOST;
 use crate::table::MoveTable;
 use message_queue::MessageQueue;
 use run_types::{Label, NameId};

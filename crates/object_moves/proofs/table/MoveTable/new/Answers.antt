@@ -1,84 +1,22 @@
-use Rattle.std.proofs.Common.{◌≡◌, refl, sym, ap, subst, ◌∙◌, arith, List, length, take}
+use Rattle.std.proofs.Common.{◌<◌, ap, subst, ◌∙◌, [], length, Some, arith}
+use Rattle.std.proofs.lemmas.List.Elements.{All-head}
 use Rattle.std.specs.Option.{IfSome}
-use Rattle.pool_syntax.specs.Terms.{ProgramTree}
-use Rattle.pool_syntax.specs.TreeOf.{program_of}
-use Rattle.pool_relation.specs.Action.{Object}
 use Rattle.search_states.specs.States.{states}
-use Rattle.object_moves.specs.Effects.{effect_new}
-use Rattle.object_moves.specs.Known.{IsKnownNew, birth_label, numbers_of_two, state_at, two_of}
+use Rattle.object_moves.specs.Known.{numbers_of_one}
 use Rattle.object_moves.specs.Rows.{AreWithin}
-use Rattle.object_moves.proofs.KnownFacts.{new_computed}
-use Rattle.object_moves.proofs.StateGrowth.{all_of, no_shorter, state_still}
+use Rattle.object_moves.specs.declared.known.One.TheVariants as O
+use Rattle.object_moves.proofs.KnownFacts.{both_within}
+use Rattle.object_moves.proofs.StateGrowth.{no_shorter}
 use Rattle.object_moves.proofs.table.MoveTable.new.Goals as goal
 
-pub keep_new-requires : goal.keep_new-requires
-keep_new-requires c =
-    let p = program_of c.args.self.now.program.now in
-    let xs = states c.args.self.now.table in
-    let ys = states c.compute_new.new.self.table in
-    let b = c.args.birth in
-    let to = c.in-Some-2.to in
-    let grown = c.compute_new.ensures.grows in
-    let longer = no_shorter xs ys grown in
-    let is : effect_new p (birth_label b) (state_at xs b.state) ≡ two_of ys to =
-    subst (λ r. IfSome r (λ m. effect_new p (birth_label b) (state_at xs b.state) ≡ two_of ys m)) c.in-Some-2.is c.in_ok-to.ensures.is
-    in
-    let within : AreWithin ys (numbers_of_two to) = subst (λ r. IfSome r (λ m. AreWithin ys (numbers_of_two m))) c.in-Some-2.is c.in_ok-to.ensures.within in
-    let known = new_computed p ys (record { birth = b; to = to }) (omega (arith, c.requires.state)) within (ap (effect_new p (birth_label b)) (state_still xs ys b.state grown c.requires.state) ∙ is) in
-    subst (λ (q : ProgramTree). IsKnownNew q ys (record { birth = b; to = to })) (sym (ap (λ r. program_of r.now) c.compute_new.ensures.program)) known
-
-pub returns-in-Some-clause-grows : goal.returns-in-Some-clause-grows
-returns-in-Some-clause-grows c = all_of (states c.args.self.now.table)
-
-pub returns-in-Some-clause-program : goal.returns-in-Some-clause-program
-returns-in-Some-clause-program c = refl
-
-pub returns-in-Some-clause-is : goal.returns-in-Some-clause-is
-returns-in-Some-clause-is c = c.in-Some.ensures.is
-
-pub returns-in-Some-clause-within : goal.returns-in-Some-clause-within
-returns-in-Some-clause-within c = c.in-Some.ensures.within
-
-pub returns-in_err-to-clause-grows : goal.returns-in_err-to-clause-grows
-returns-in_err-to-clause-grows c = c.compute_new.ensures.grows
-
-pub returns-in_err-to-clause-program : goal.returns-in_err-to-clause-program
-returns-in_err-to-clause-program c = c.compute_new.ensures.program
-
-pub returns-in_default-2-clause-grows : goal.returns-in_default-2-clause-grows
-returns-in_default-2-clause-grows c = c.compute_new.ensures.grows
-
-pub returns-in_default-2-clause-program : goal.returns-in_default-2-clause-program
-returns-in_default-2-clause-program c = c.compute_new.ensures.program
-
-pub returns-in_default-2-clause-is : goal.returns-in_default-2-clause-is
-returns-in_default-2-clause-is c = tt
-
-pub returns-in_default-2-clause-within : goal.returns-in_default-2-clause-within
-returns-in_default-2-clause-within c = tt
-
-pub returns-in_err-keep_new-clause-grows : goal.returns-in_err-keep_new-clause-grows
-returns-in_err-keep_new-clause-grows c = ap (take (length (states c.args.self.now.table))) c.keep_new.ensures.states ∙ c.compute_new.ensures.grows
-
-pub returns-in_err-keep_new-clause-program : goal.returns-in_err-keep_new-clause-program
-returns-in_err-keep_new-clause-program c = c.keep_new.ensures.program ∙ c.compute_new.ensures.program
-
-pub returns-clause-grows : goal.returns-clause-grows
-returns-clause-grows c = ap (take (length (states c.args.self.now.table))) c.keep_new.ensures.states ∙ c.compute_new.ensures.grows
-
-pub returns-clause-program : goal.returns-clause-program
-returns-clause-program c = c.keep_new.ensures.program ∙ c.compute_new.ensures.program
-
-pub returns-clause-is : goal.returns-clause-is
-returns-clause-is c =
-    let p = program_of c.args.self.now.program.now in
-    let xs = states c.args.self.now.table in
-    let ys = states c.compute_new.new.self.table in
-    let is : effect_new p (birth_label c.args.birth) (state_at xs c.args.birth.state) ≡ two_of ys c.in-Some-2.to = subst (λ r. IfSome r (λ m. effect_new p (birth_label c.args.birth) (state_at xs c.args.birth.state) ≡ two_of ys m)) c.in-Some-2.is c.in_ok-to.ensures.is in
-    is ∙ ap (λ (zs : List Object). two_of zs c.in-Some-2.to) (sym c.keep_new.ensures.states)
-
-pub returns-clause-within : goal.returns-clause-within
-returns-clause-within c =
-    let ys = states c.compute_new.new.self.table in
-    let within : AreWithin ys (numbers_of_two c.in-Some-2.to) = subst (λ r. IfSome r (λ m. AreWithin ys (numbers_of_two m))) c.in-Some-2.is c.in_ok-to.ensures.within in
-    subst (λ (zs : List Object). AreWithin zs (numbers_of_two c.in-Some-2.to)) (sym c.keep_new.ensures.states) within
+pub returns-in-Ok-Some-To-newborn-clause-within : goal.returns-in-Ok-Some-To-newborn-clause-within
+returns-in-Ok-Some-To-newborn-clause-within c =
+    let ys = states c.follow.new.self.table in
+    let zs = states c.newborn.new.self.table in
+    let told = c.in-Ok-Some-To in
+    let born = c.in-Ok-Some-To-newborn in
+    let first : AreWithin ys (numbers_of_one (O.To told.maker)) = subst (λ r. IfSome r (λ m. AreWithin ys (numbers_of_one m))) (told.field-0-is ∙ ap Some told.field-0-0-is) told.ensures.within in
+    let second : AreWithin zs (numbers_of_one (O.To born.new)) = subst (λ r. IfSome r (λ m. AreWithin zs (numbers_of_one m))) (born.field-0-is ∙ ap Some born.field-0-0-is) born.ensures.within in
+    let longer = no_shorter ys zs born.ensures.grows in
+    let maker : told.maker < length ys = All-head (λ n. n < length ys) told.maker [] first in
+    both_within zs told.maker born.new (omega (arith, maker, longer)) (All-head (λ n. n < length zs) born.new [] second)

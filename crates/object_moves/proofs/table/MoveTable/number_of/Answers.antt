@@ -1,6 +1,6 @@
 use Rattle.pool_syntax.specs.TreeOf.{program_of}
 use Rattle.search_states.specs.States.{states}
-use Rattle.object_moves.proofs.KnownGrowth.{ones_known, mails_known, news_known, twos_known, rests_known}
+use Rattle.object_moves.proofs.KnownGrowth.{edges_known, rests_known}
 use Rattle.object_moves.proofs.table.MoveTable.number_of.Goals as goal
 
 pub invariant_of-self : goal.invariant_of-self
@@ -10,10 +10,4 @@ invariant_of-self c =
     let xs = states m.table in
     let ys = states c.number_of.new.self in
     let grown = c.number_of.ensures.grows in
-    record {
-      known_ones = ones_known xs ys grown p m.ones.items m.known_ones;
-      known_mails = mails_known xs ys grown p m.mails.items m.known_mails;
-      known_news = news_known xs ys grown p m.news.items m.known_news;
-      known_twos = twos_known xs ys grown p m.twos.items m.known_twos;
-      known_rests = rests_known xs ys grown p m.rests.items m.known_rests;
-    }
+    record { known_edges = edges_known xs ys grown p m.edges.items m.known_edges; known_rests = rests_known xs ys grown p m.rests.items m.known_rests }

@@ -1,84 +1,19 @@
-use Rattle.std.proofs.Common.{◌≡◌, refl, sym, ap, subst, ◌∙◌, arith, List, length, take}
-use Rattle.std.specs.Option.{IfSome}
-use Rattle.pool_syntax.specs.Terms.{ProgramTree}
+use Rattle.std.proofs.Common.{◌≡◌, ◌∙◌}
 use Rattle.pool_syntax.specs.TreeOf.{program_of}
-use Rattle.pool_relation.specs.Action.{Object}
 use Rattle.search_states.specs.States.{states}
 use Rattle.object_moves.specs.Effects.{effect_one}
-use Rattle.object_moves.specs.Known.{IsKnownOne, numbers_of_one, one_of, solo_label, state_at}
-use Rattle.object_moves.specs.Rows.{AreWithin}
-use Rattle.object_moves.proofs.KnownFacts.{one_computed}
-use Rattle.object_moves.proofs.StateGrowth.{all_of, no_shorter, state_still}
+use Rattle.object_moves.specs.Known.{one_of, solo_label, state_at}
+use Rattle.object_moves.specs.Roles.{after}
+use Rattle.object_moves.specs.declared.known.One.{One}
+use Rattle.object_moves.proofs.KnownFacts.{each_told}
+use Rattle.object_moves.proofs.PartEffects.{solo_part}
 use Rattle.object_moves.proofs.table.MoveTable.one.Goals as goal
-
-pub keep_one-requires : goal.keep_one-requires
-keep_one-requires c =
-    let p = program_of c.args.self.now.program.now in
-    let xs = states c.args.self.now.table in
-    let ys = states c.compute_one.new.self.table in
-    let o = c.args.object in
-    let s = c.args.state in
-    let a = c.args.act in
-    let to = c.in-Some-2.to in
-    let grown = c.compute_one.ensures.grows in
-    let longer = no_shorter xs ys grown in
-    let is : effect_one p (solo_label o a) (state_at xs s) ≡ one_of ys to = subst (λ r. IfSome r (λ m. effect_one p (solo_label o a) (state_at xs s) ≡ one_of ys m)) c.in-Some-2.is c.in_ok-to.ensures.is in
-    let within : AreWithin ys (numbers_of_one to) = subst (λ r. IfSome r (λ m. AreWithin ys (numbers_of_one m))) c.in-Some-2.is c.in_ok-to.ensures.within in
-    let known = one_computed p ys (record { object = o; state = s; act = a; to = to }) (omega (arith, c.requires.state)) within (ap (effect_one p (solo_label o a)) (state_still xs ys s grown c.requires.state) ∙ is) in
-    subst (λ (q : ProgramTree). IsKnownOne q ys (record { object = o; state = s; act = a; to = to })) (sym (ap (λ r. program_of r.now) c.compute_one.ensures.program)) known
-
-pub returns-in-Some-clause-grows : goal.returns-in-Some-clause-grows
-returns-in-Some-clause-grows c = all_of (states c.args.self.now.table)
-
-pub returns-in-Some-clause-program : goal.returns-in-Some-clause-program
-returns-in-Some-clause-program c = refl
-
-pub returns-in-Some-clause-is : goal.returns-in-Some-clause-is
-returns-in-Some-clause-is c = c.in-Some.ensures.is
-
-pub returns-in-Some-clause-within : goal.returns-in-Some-clause-within
-returns-in-Some-clause-within c = c.in-Some.ensures.within
-
-pub returns-in_err-to-clause-grows : goal.returns-in_err-to-clause-grows
-returns-in_err-to-clause-grows c = c.compute_one.ensures.grows
-
-pub returns-in_err-to-clause-program : goal.returns-in_err-to-clause-program
-returns-in_err-to-clause-program c = c.compute_one.ensures.program
-
-pub returns-in_default-2-clause-grows : goal.returns-in_default-2-clause-grows
-returns-in_default-2-clause-grows c = c.compute_one.ensures.grows
-
-pub returns-in_default-2-clause-program : goal.returns-in_default-2-clause-program
-returns-in_default-2-clause-program c = c.compute_one.ensures.program
-
-pub returns-in_default-2-clause-is : goal.returns-in_default-2-clause-is
-returns-in_default-2-clause-is c = tt
-
-pub returns-in_default-2-clause-within : goal.returns-in_default-2-clause-within
-returns-in_default-2-clause-within c = tt
-
-pub returns-in_err-keep_one-clause-grows : goal.returns-in_err-keep_one-clause-grows
-returns-in_err-keep_one-clause-grows c = ap (take (length (states c.args.self.now.table))) c.keep_one.ensures.states ∙ c.compute_one.ensures.grows
-
-pub returns-in_err-keep_one-clause-program : goal.returns-in_err-keep_one-clause-program
-returns-in_err-keep_one-clause-program c = c.keep_one.ensures.program ∙ c.compute_one.ensures.program
-
-pub returns-clause-grows : goal.returns-clause-grows
-returns-clause-grows c = ap (take (length (states c.args.self.now.table))) c.keep_one.ensures.states ∙ c.compute_one.ensures.grows
-
-pub returns-clause-program : goal.returns-clause-program
-returns-clause-program c = c.keep_one.ensures.program ∙ c.compute_one.ensures.program
 
 pub returns-clause-is : goal.returns-clause-is
 returns-clause-is c =
     let p = program_of c.args.self.now.program.now in
-    let xs = states c.args.self.now.table in
-    let ys = states c.compute_one.new.self.table in
-    let is : effect_one p (solo_label c.args.object c.args.act) (state_at xs c.args.state) ≡ one_of ys c.in-Some-2.to = subst (λ r. IfSome r (λ m. effect_one p (solo_label c.args.object c.args.act) (state_at xs c.args.state) ≡ one_of ys m)) c.in-Some-2.is c.in_ok-to.ensures.is in
-    is ∙ ap (λ (zs : List Object). one_of zs c.in-Some-2.to) (sym c.keep_one.ensures.states)
-
-pub returns-clause-within : goal.returns-clause-within
-returns-clause-within c =
-    let ys = states c.compute_one.new.self.table in
-    let within : AreWithin ys (numbers_of_one c.in-Some-2.to) = subst (λ r. IfSome r (λ m. AreWithin ys (numbers_of_one m))) c.in-Some-2.is c.in_ok-to.ensures.within in
-    subst (λ (zs : List Object). AreWithin zs (numbers_of_one c.in-Some-2.to)) (sym c.keep_one.ensures.states) within
+    let x = state_at (states c.args.self.now.table) c.args.state in
+    let ys = states c.follow.new.self.table in
+    let o = c.args.object in
+    let part = c.alone.result in
+    each_told (λ (m : One). after p o part x ≡ one_of ys m) (λ (m : One). effect_one p (solo_label o c.args.act) x ≡ one_of ys m) (λ (m : One) is. solo_part p o c.args.act part x c.alone.ensures ∙ is) c.follow.result c.follow.ensures.is

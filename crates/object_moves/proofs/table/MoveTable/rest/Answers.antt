@@ -3,7 +3,7 @@ use Rattle.std.specs.Option.{IfSome}
 use Rattle.pool_relation.specs.Action.{Object}
 use Rattle.pool_syntax.specs.TreeOf.{program_of}
 use Rattle.search_states.specs.States.{states}
-use Rattle.object_moves.specs.Effects.{strolled}
+use Rattle.object_moves.specs.Roles.{after_local}
 use Rattle.object_moves.specs.Known.{IsKnownRest, state_at}
 use Rattle.object_moves.proofs.KnownFacts.{rest_told}
 use Rattle.object_moves.proofs.StateGrowth.{all_of, state_still}
@@ -18,7 +18,7 @@ returns-clause-is c =
     let s = c.args.state in
     let k = c.in-Some-2.known in
     let told = subst (λ r. IfSome r (λ k. IsKnownRest p ys k × (k.object ≡ o) × (k.state ≡ s))) c.in-Some-2.is c.in_ok-known.ensures.is in
-    ap (strolled p o k.steps) (sym (state_still xs ys s c.in_ok-known.ensures.grows c.requires)) ∙ rest_told p ys k o s told.0 told.1 told.2
+    ap (after_local p o k.steps) (sym (state_still xs ys s c.in_ok-known.ensures.grows c.requires)) ∙ rest_told p ys k o s told.0 told.1 told.2
     ∙ ap (λ (zs : List Object). Some (state_at zs k.to)) (sym c.in_ok-keep_rest.ensures.states)
 
 pub returns-in-Some-clause-grows : goal.returns-in-Some-clause-grows

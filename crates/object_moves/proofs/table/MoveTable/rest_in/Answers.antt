@@ -3,7 +3,7 @@ use Rattle.std.specs.Option.{IfSome}
 use Rattle.std.proofs.lemmas.Option.{get_or_from_slice_get, slice_get_within}
 use Rattle.pool_syntax.specs.TreeOf.{program_of}
 use Rattle.search_states.specs.States.{states}
-use Rattle.object_moves.specs.Effects.{strolled}
+use Rattle.object_moves.specs.Roles.{after_local}
 use Rattle.object_moves.specs.Known.{state_at}
 use Rattle.object_moves.proofs.KnownFacts.{read_at}
 use Rattle.object_moves.proofs.RowMoves.{rest_leads}
@@ -21,10 +21,10 @@ returns-in-Ok-Some-clause-follows c = λ silent ms.
     let l = c.in-Some.ensures.lookup in
     let there : slice_get ns o ≡ Some s = read_at c.as_slice.result.now ns o s c.as_slice.ensures.value l.3.0 l.1 in
     let k = c.in-Ok-Some.known in
-    let is : strolled p o k.steps (state_at xs s) ≡ Some (state_at ys k.to) =
-    subst (λ r. IfSome r (λ k. strolled p o k.steps (state_at xs s) ≡ Some (state_at ys k.to))) c.in-Ok-Some.field-0-is c.in-Ok-Some.ensures.is
+    let is : after_local p o k.steps (state_at xs s) ≡ Some (state_at ys k.to) =
+    subst (λ r. IfSome r (λ k. after_local p o k.steps (state_at xs s) ≡ Some (state_at ys k.to))) c.in-Ok-Some.field-0-is c.in-Ok-Some.ensures.is
     in
-    rest_leads p xs ns ms ys o k.steps k.to silent c.in-Ok-Some.ensures.grows c.requires.within (slice_get_within ns o s there) (ap (λ n. strolled p o k.steps (state_at xs n)) (get_or_from_slice_get ns o s 0 there) ∙ is)
+    rest_leads p xs ns ms ys o k.steps k.to silent c.in-Ok-Some.ensures.grows c.requires.within (slice_get_within ns o s there) (ap (λ n. after_local p o k.steps (state_at xs n)) (get_or_from_slice_get ns o s 0 there) ∙ is)
 
 pub returns-in_default-clause-grows : goal.returns-in_default-clause-grows
 returns-in_default-clause-grows c = all_of (states c.args.self.now.table)
