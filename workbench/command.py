@@ -29,7 +29,7 @@ def programs_of():
             if not os.access(found[name], os.X_OK):
                 stop(f"{found[name]}: no program that can be run", 70)
         else:
-            places = [f"{TOP}/.pool/{name}", f"{TOP}/.pool/unproved/{name}"]
+            places = [f"{TOP}/.pool/{name}", f"{TOP}/bin/{name}", f"{TOP}/.pool/unproved/{name}"]
             found[name] = next((it for it in places if os.access(it, os.X_OK)), None)
             if not found[name]:
                 stop(f"there is no {name}: ./{name} proves and builds it; `tools/unproved {'print' if name == 'pool' else 'search'} ..` compiles it in two minutes without proofs", 70)
