@@ -33,7 +33,7 @@ CodeMirror.defineMode('pool', config => ({
 
 export const editor = CodeMirror($('editor'), {
   mode: 'pool', lineNumbers: true, indentUnit: 2, tabSize: 2, lineWrapping: true, matchBrackets: true, viewportMargin: 50, screenReaderLabel: 'program',
-  inputStyle: 'contenteditable', spellcheck: false,
+  spellcheck: false,
   // (the key goes on to the next part of the page, so that nobody is caught in the editor)
   extraKeys: { Tab: false, 'Shift-Tab': false },
 });
