@@ -241,7 +241,7 @@ def make(jobs, shown, programs, tries=None, proved=True):
         each = truth(given, "each")
         if found is None and (placement is None or schedule is None):
             raise Wrong("The request has no run.")
-        title = re.sub(r"\s+", " ", title).lstrip("-") or "a run"
+        title = re.sub(r"[\s\x00-\x1f\x7f]+", " ", title).lstrip("- ") or "a run"
         with opened() as job:
             job.write("program", program)
             if found is None:

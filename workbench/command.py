@@ -75,7 +75,7 @@ def main():
     except OSError as it:
         jobs.end()
         stop(f"{asked.address}:{asked.port}: {it.strerror or it}", 70)
-    until = []
+    until, idle = [], []
 
     def ends(*_):
         """At a signal: no job is begun any more; when the last one is done, or its time is over, or at a second signal, the server ends."""
@@ -86,7 +86,9 @@ def main():
         signal.setitimer(signal.ITIMER_REAL, 0.3, 0.2)
 
     def looks(*_):
-        if not jobs.open or time.monotonic() > until[0]:
+        # (the answer of the last job is still on its way the first time that no job is open)
+        idle.append(not jobs.open)
+        if idle[-3:] == [True] * 3 or time.monotonic() > until[0]:
             raise SystemExit
 
     signal.signal(signal.SIGALRM, looks)
