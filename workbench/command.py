@@ -80,15 +80,17 @@ def main():
     def ends(*_):
         """At a signal: no job is begun any more; when the last one is done, or its time is over, or at a second signal, the server ends."""
         if jobs.closing:
+            signal.setitimer(signal.ITIMER_REAL, 0)
             raise SystemExit
         jobs.closing = True
-        until.append(time.monotonic() + 3 * asked.seconds + 5)
+        until.append(time.monotonic() + 3 * asked.seconds + 8)
         signal.setitimer(signal.ITIMER_REAL, 0.3, 0.2)
 
     def looks(*_):
         # (the answer of the last job is still on its way the first time that no job is open)
         idle.append(not jobs.open)
         if idle[-3:] == [True] * 3 or time.monotonic() > until[0]:
+            signal.setitimer(signal.ITIMER_REAL, 0)
             raise SystemExit
 
     signal.signal(signal.SIGALRM, looks)

@@ -87,7 +87,7 @@ async function start() {
   if (!await openLink()) openText('own', WELCOME);
   addEventListener('hashchange', () => { if (location.hash !== link) openLink(); });
   $('link').addEventListener('click', async () => {
-    const text = location.href.split('#')[0] + '#' + await packed(program());
+    const text = location.href.split('#')[0] + '#' + await packed(editor.getValue());
     $('link-text').value = text;
     $('link-label').hidden = false;
     $('linked').textContent = await copy(text, $('link-text')) ? 'Copied.' : 'Copy the text of the link:';
