@@ -84,7 +84,11 @@ async function start() {
     clearTimeout(waiting);
     waiting = setTimeout(address, 600);
   });
-  if (!await openLink()) openText('own', WELCOME);
+  if (!await openLink()) {
+    const says = $('linked').textContent;
+    openText('own', WELCOME);
+    $('linked').textContent = says;
+  }
   addEventListener('hashchange', () => { if (location.hash !== link) openLink(); });
   $('link').addEventListener('click', async () => {
     const text = location.href.split('#')[0] + '#' + await packed(editor.getValue());
