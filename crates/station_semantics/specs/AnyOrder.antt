@@ -1,6 +1,6 @@
--- Steps in any order, with any frames. Each packet that is handed out is the one that entered its link with its number.
--- So they need not be steps that a carrier can make: an acknowledgement may come too early, and a frame with another
--- number is dropped.
+-- Steps in any order, with any frames, in which each packet that is handed out is the one that entered its link with
+-- its number. So they need not be steps that a carrier can make: an acknowledgement may come too early, and a frame with
+-- another number is dropped.
 use Rattle.std.specs.Prelude.{◌≡◌, ℕ, ◌*◌, ◌≤◌, List, [], ◌∷◌, length, drop, Option, Some, None, slice_get}
 use Rattle.run_types.specs.declared.types.Placement.{Placement}
 use Rattle.run_types.specs.Tables.{Pair, pair_cmp, list_at}

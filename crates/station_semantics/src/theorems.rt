@@ -29,9 +29,8 @@ pub fn stations_do_what_the_machine_does<S>()
     ensures quiet { (g : Language S) (l : Placement) (w : Whole S) (m : Machine S) (puts : Puts) → Fits l w m puts → AllQuiet g w → is_machine_quiet g m ≡ true }
 {}
 
-/// The steps of all stations may come in any order, with any frames. Each packet that is handed out is the one that
-/// entered its link with its number. Then the machine over links without wires makes the merged lines, if its nodes have
-/// enough cells.
+/// In any order of steps the machine makes the merged lines, if each packet handed out is the one that entered with its
+/// number. Any frames may come. The machine has no wires, and its nodes have enough cells.
 pub fn stations_do_so_in_any_order<S>()
     ensures { (g : Language S) (l : Placement) (q : ℕ) (w : Whole S) (m : Machine S) (puts : Puts) (is : List Step) → Agrees l w m puts → AreRight g l q w puts is
         → (most : ℕ) × (m' : Machine S) × (puts' : Puts) × ((cells : ℕ) → most ≤ cells → Makes g (with_cells l cells) q m (merged g l q w is) m') × Agrees l (after_steps g l q w is) m' puts' }
@@ -47,8 +46,8 @@ pub fn merged_lines_are_a_record<S, K>()
         × (AllQuiet g (after_steps g l q (apart m) is) → b ≡ true) }
 {}
 
-/// The steps may come in any order, with any frames, as above. Then the merged lines, with numbers and an end line, are
-/// the record over the events of these lines, if the nodes have enough cells.
+/// In any such order the merged lines, with numbers and an end line, are the record over their events, if the nodes have
+/// enough cells.
 pub fn lines_in_any_order_are_a_record<S, K>()
     ensures { (g : Language S) (kept : K → Config S) (l : Placement) (q : ℕ) (m : Machine S) (is : List Step)
         → Lawful g (IsGiven kept) → Requests g (IsGiven kept) → machine_start g l ≡ Some m → AreRight g l q (apart m) [] is
