@@ -7,7 +7,7 @@ use Rattle.pool_syntax.specs.Typing.{faults}
 use Rattle.run_types.specs.declared.types.Line.{Line}
 use Rattle.run_types.specs.declared.types.Line.TheVariants as R
 use Rattle.mesh_semantics.specs.Record.{EndsOnce}
-use Rattle.run_record.specs.Readable.{IsRecordFrom}
+use Rattle.run_record.specs.Readable.{IsRecord, IsRecordFrom}
 use Rattle.run_types.specs.declared.verdicts.Verdict.{Verdict}
 use Rattle.run_types.specs.declared.verdicts.Verdict.TheVariants as V
 use Rattle.command_inputs.specs.declared.fault.Fault.{Fault}
@@ -18,10 +18,10 @@ use Rattle.command_inputs.specs.declared.fault.InputError.TheVariants as T
 use Rattle.command_inputs.specs.declared.program.Parsed.{Parsed}
 use Rattle.command_inputs.specs.declared.record.NamedLines.{NamedLines}
 use Rattle.command_inputs.specs.Inputs.{IsReadAs}
-use Rattle.command_inputs.specs.Readers.{AreLinesOf, AreNamedLinesOf, IsAnyProgram, IsProgramOf, IsTypedProgramOf, Reads}
+use Rattle.command_inputs.specs.Readers.{AreNamedLinesOf, IsAnyProgram, IsProgramOf, IsTypedProgramOf, Reads}
 use Rattle.command_inputs.specs.Programs.{HasTypedFault, IsFaultOfClasses, IsFaultOfText, IsTypedProgram}
 use Rattle.command_inputs.proofs.Laws.{judged, judges_refusal}
-use Rattle.run_record.specs.Numbered.{lines_after}
+use Rattle.run_record.specs.Numbered.{lines_after, names_after}
 use Rattle.run_record.specs.Records.{record_of}
 use Rattle.command_shell.specs.declared.status.Status.{Status}
 use Rattle.command_shell.specs.Ends.{Reaches, WholeTextWritten}
@@ -96,13 +96,13 @@ judged_by (Sh.Lines first last) p names ls text v h = h.judged
 judged_by Sh.Waits p names ls text v h = h.judged
 
 -- what comes of a program and a record, one after the other
-pub watch_makes : (k : Reading) (shown : Shown) (name other s t : Text) (read : Parsed) (ls : List Line) (o : Output) (v : Verdict) → IsReadAs k.told I.Program name s → IsProgramOf s read
-    → faults (program_of read.program) ≡ [] → IsReadAs k.told I.Record other t → AreLinesOf read.names t ls → k.opened ≡ k.opens + 2 → length t ≡ k.given → k.live ≡ false → AllRead k
-    → IsTextOf shown (program_of read.program) read.names ls o.text.items v → ((w : Verdict) → Judged (program_of read.program) ls w → w ≡ v) → o.status ≡ status_of_verdict v
+pub watch_makes : (k : Reading) (shown : Shown) (name other s t : Text) (read : Parsed) (lines : NamedLines) (o : Output) (v : Verdict) → IsReadAs k.told I.Program name s → IsProgramOf s read
+    → faults (program_of read.program) ≡ [] → IsReadAs k.told I.Record other t → AreNamedLinesOf read.names t lines → k.opened ≡ k.opens + 2 → length t ≡ k.given → k.live ≡ false → AllRead k
+    → IsTextOf shown (program_of read.program) lines.names lines.lines o.text.items v → ((w : Verdict) → Judged (program_of read.program) lines.lines w → w ≡ v) → o.status ≡ status_of_verdict v
     → ResultsIn k (of_watch shown name other) (Ok o)
-watch_makes k shown name other s t read ls o v first is typed second lines opened given ended calm shows only status = D.made o refl (record {
+watch_makes k shown name other s t read lines o v first is typed second named opened given ended calm shows only status = D.made o refl (record {
   texts = s ∷ t ∷ [];
-  accepted = (first, (program_of read.program, ((read.names, is.parsed), typed)), (second, lines.0, tt));
+  accepted = (first, (program_of read.program, ((read.names, is.parsed), typed)), (second, named.0.0, tt));
   opened = opened;
   given = given;
   ended = ended;
@@ -112,10 +112,11 @@ watch_makes k shown name other s t read ls o v first is typed second lines opene
     program = program_of read.program;
     parsed = is.parsed;
     typed = typed;
-    faultless = lines.0;
+    faultless = named.0.0;
     verdict = v;
-    shows = subst (λ (xs : List Line). IsTextOf shown (program_of read.program) read.names xs o.text.items v) lines.1 shows;
-    only = λ w h. only w (subst (λ (xs : List Line). Judged (program_of read.program) xs w) (sym lines.1) h);
+    shows = subst (λ (ns : List Text). IsTextOf shown (program_of read.program) ns (lines_after read.names (record_of t).told) o.text.items v) named.1
+        (subst (λ (xs : List Line). IsTextOf shown (program_of read.program) lines.names xs o.text.items v) named.0.1 shows);
+    only = λ w h. only w (subst (λ (xs : List Line). Judged (program_of read.program) xs w) (sym named.0.1) h);
     ended = status;
   };
 }) tt
@@ -150,6 +151,13 @@ fill_makes k name other s t read lines o v first is typed second named opened gi
     ended = status;
   };
 }) tt
+
+-- the lines of a record that was read are those of a record
+pub read_again : (names : List Text) (t : Text) (lines : NamedLines) → AreNamedLinesOf names t lines → IsRecord (names_after names (record_of t).told) (lines_after names (record_of t).told)
+    → IsRecord lines.names lines.lines
+read_again names t lines named h =
+    subst (λ (ns : List Text). IsRecord ns lines.lines) (sym named.1)
+    (subst (λ (ls : List Line). IsRecord (names_after names (record_of t).told) ls) (sym named.0.1) h)
 
 -- an output is written with a status that says so
 

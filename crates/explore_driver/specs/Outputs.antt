@@ -1,5 +1,5 @@
 -- The output of each command, given the texts of its inputs.
-use Rattle.std.specs.Prelude.{◌≡◌, List, [], ◌∷◌, None}
+use Rattle.std.specs.Prelude.{◌≡◌, ◌≤◌, length, List, [], ◌∷◌, None}
 use Rattle.text_scan.specs.Text.{Text}
 use Rattle.pool_syntax.specs.Terms.{ProgramTree}
 use Rattle.pool_syntax.specs.Typing.{faults}
@@ -7,6 +7,7 @@ use Rattle.run_types.specs.declared.types.Line.{Line}
 use Rattle.run_types.specs.declared.verdicts.Verdict.{Verdict}
 use Rattle.run_record.specs.Numbered.{lines_after, names_after}
 use Rattle.run_record.specs.Records.{record_of}
+use Rattle.run_record.specs.Readable.{IsRecord}
 use Rattle.command_inputs.specs.Programs.{IsParsed}
 use Rattle.command_shell.specs.declared.status.Status.{Status}
 use Rattle.command_shell.specs.declared.status.Status.TheVariants as S
@@ -57,13 +58,14 @@ pub record IsWatchOn (shown : Shown) (source s text : Text) (status : Status) : 
   pub typed : faults program ≡ []
   pub faultless : (record_of s).fault ≡ None
   pub verdict : Verdict
-  pub shows : IsTextOf shown program names (lines_after names (record_of s).told) text verdict
+  pub shows : IsTextOf shown program (names_after names (record_of s).told) (lines_after names (record_of s).told) text verdict
   pub only : (v : Verdict) → Judged program (lines_after names (record_of s).told) v → v ≡ verdict
   pub ended : status ≡ status_of_verdict verdict
 
--- the text is that of the lines with local transitions filled in, with the verdict on them
+-- The text is that of the lines with local transitions filled in, with the verdict on them. With at most 2,000,000 events
+-- they are the lines of a record, so the text can be read.
 abbrev pub IsFilledText : ProgramTree → List Text → List Line → Text → Verdict → Type 0
-IsFilledText p names ls text verdict = (fs : List Line) × IsFilled p ls fs verdict × (text ≡ record_text names fs)
+IsFilledText p names ls text verdict = (fs : List Line) × IsFilled p ls fs verdict × (text ≡ record_text names fs) × (length fs ≤ 2000001 → IsRecord names fs)
 
 -- The source is a program without class faults, and the record has no fault. The text has its lines, read with the
 -- program's names, with local transitions filled in, in the first form. The verdict is that on the filled record.

@@ -1,6 +1,6 @@
 //! Makes the output of a command. Each input is read and checked before the next is opened.
 ghost use Rattle.std.specs.Prelude.{◌≡◌, ◌++◌, ◌-◌, ◌^◌, ◌≤◌, IfOk, OnOk};
-ghost use Rattle.mesh_semantics.specs.Record.{EndsOnce};
+ghost use Rattle.run_record.specs.Readable.{IsRecord};
 ghost use Rattle.record_writer.specs.RecordText.{record_text};
 ghost use Rattle.command_shell.specs.Ends.{StaysWithin};
 ghost use Rattle.command_shell.specs.Programs.{MayOpen};
@@ -15,9 +15,7 @@ ghost use Rattle.explore_driver.specs.Words.{of_fill, of_search, of_watch};
 
 use crate::words::{Asked, Shown};
 use class_check::Checked;
-use command_inputs::{
-    InputError, NamedLines, judge_classes, read_lines, read_named_lines, read_parsed,
-};
+use command_inputs::{InputError, NamedLines, judge_classes, read_named_lines, read_parsed};
 use command_shell::{Status, status_of_verdict};
 use pool_outside::Files;
 use pool_search::Progress;
@@ -28,6 +26,7 @@ use run_types::{Line, Names};
 use search_text::{Found, Question, answer_of};
 use std::alloc::{AllocError, Global};
 use stream_check::fill_record;
+use stream_check::theorems::a_filled_record_is_a_record;
 use watch_text::{Watched, report_waits, watch_lines, watch_record};
 
 /// The text of an output, and the status with which it is written.
@@ -122,11 +121,11 @@ fn watch_output<F: Files>(
         Ok(checked) => checked,
         Err(stop) => return Err(stop),
     };
-    let lines = match read_lines(alloc, files, claim, &parsed.names) {
-        Ok(lines) => lines,
+    let read = match read_named_lines(alloc, files, claim, &parsed.names) {
+        Ok(read) => read,
         Err(stop) => return Err(stop),
     };
-    match watched(alloc, &checked, &parsed.names, lines.items(), shown) {
+    match watched(alloc, &checked, &read.names, read.lines.items(), shown) {
         Ok(watched) => Ok(Output {
             status: status_of_verdict(&watched.verdict),
             text: watched.text,
@@ -146,11 +145,12 @@ fn push_lines(text: &mut Vec<u8>, names: &Names, lines: &[Line]) -> Result<(), A
 }
 
 /// Fills in the local transitions of the lines. Returns the text of the filled record, and the verdict on it.
-/// Requires one end line, the last. An error means out of memory.
+/// Requires the lines of a record. An error means out of memory.
 fn filled(alloc: Global, program: &Checked<'_>, read: &NamedLines) -> Result<Watched, AllocError>
-    requires { EndsOnce read.now.lines }
+    requires { IsRecord read.now.names read.now.lines }
     ensures { IfOk result (λ w. IsFilledText (program_of program.now.program.now) read.now.names read.now.lines w.text.items w.verdict) }
 {
+    a_filled_record_is_a_record();
     let filled = fill_record(alloc, program, read.lines.items())?;
     let mut text = Vec::new(alloc);
     push_lines(&mut text, &read.names, filled.lines.items())?;

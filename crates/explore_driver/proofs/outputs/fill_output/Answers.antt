@@ -9,11 +9,10 @@ use Rattle.command_shell.proofs.Laws.{may_at, none_opened, opened_within, reache
 use Rattle.explore_driver.specs.Ends.{explore_program, inputs}
 use Rattle.explore_driver.specs.Results.{IsWritable, status_of, text_of}
 use Rattle.command_inputs.specs.Readers.{HasRecordFault}
-use Rattle.mesh_semantics.specs.Record.{EndsOnce}
 use Rattle.explore_driver.specs.Ends.{HasFault}
 use Rattle.explore_driver.specs.Outputs.{IsFilledText}
 use Rattle.explore_driver.specs.Words.{of_fill}
-use Rattle.explore_driver.proofs.OutputLaws.{class_stops, ends_once, fill_makes}
+use Rattle.explore_driver.proofs.OutputLaws.{class_stops, fill_makes, read_again}
 use Rattle.explore_driver.proofs.outputs.fill_output.Goals as goal
 
 few : (n m : ℕ) → n ≤ m → m ≤ 1048576 → n < 2 ^ 31
@@ -109,4 +108,4 @@ returns-clause-unread_within g c =
 pub filled-requires : goal.filled-requires
 filled-requires g c =
     let v = was_read _ _ _ _ _ _ c.in-Ok-read_named_lines.read c.in-Ok-read_named_lines.ensures.reads in
-    subst EndsOnce (sym v.2.0.1) (ends_once _ 0 _ (c.what_is_read_is_readable.ensures v.0 c.in-Ok.parsed.names v.2.0.0))
+    read_again c.in-Ok.parsed.names v.0 c.in-Ok-read_named_lines.read v.2 (c.what_is_read_is_readable.ensures v.0 c.in-Ok.parsed.names v.2.0.0)

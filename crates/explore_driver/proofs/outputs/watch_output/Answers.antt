@@ -33,14 +33,14 @@ judge_classes-requires-clause-grammatical g c = (was_read _ _ _ _ _ _ c.in-Ok.pa
 pub judge_classes-requires-clause-spelled : goal.judge_classes-requires-clause-spelled
 judge_classes-requires-clause-spelled g c = (was_read _ _ _ _ _ _ c.in-Ok.parsed c.in-Ok.ensures.reads).2.spelled
 
-pub read_lines-requires-clause-allowed : goal.read_lines-requires-clause-allowed
-read_lines-requires-clause-allowed g c =
+pub read_named_lines-requires-clause-allowed : goal.read_named_lines-requires-clause-allowed
+read_named_lines-requires-clause-allowed g c =
     let other = c.args.claim.now in
     may_at (g.F.Files.may c.args.files.now) (g.F.Files.may c.read_parsed.new.files) (inputs (of_watch c.args.shown c.args.program.now other)) (g.F.Files.opens c.args.files.now) (g.F.Files.opens c.read_parsed.new.files) 1 I.Record other
     c.requires.allowed c.in-Ok.ensures.same_leave c.in-Ok.ensures.opened_once refl
 
-pub read_lines-requires-clause-few : goal.read_lines-requires-clause-few
-read_lines-requires-clause-few g c =
+pub read_named_lines-requires-clause-few : goal.read_named_lines-requires-clause-few
+read_named_lines-requires-clause-few g c =
     let w = was_read _ _ _ _ _ _ c.in-Ok.parsed c.in-Ok.ensures.reads in
     few (length c.in-Ok.parsed.names) (length w.0) (parsed_few w.0 c.in-Ok.parsed.names (program_of c.in-Ok.parsed.program) w.2.parsed) w.1.0.1
 
@@ -66,44 +66,44 @@ pub returns-in-Err-judge_classes-clause-unread_within : goal.returns-in-Err-judg
 returns-in-Err-judge_classes-clause-unread_within g c =
     opened_within _ _ _ (inputs (of_watch c.args.shown c.args.program.now c.args.claim.now)) 0 I.Program c.args.program.now refl c.in-Ok.ensures.opened_once c.in-Ok.ensures.unread_within
 
-pub returns-in-Err-read_lines-clause-makes : goal.returns-in-Err-read_lines-clause-makes
-returns-in-Err-read_lines-clause-makes g c =
+pub returns-in-Err-read_named_lines-clause-makes : goal.returns-in-Err-read_named_lines-clause-makes
+returns-in-Err-read_named_lines-clause-makes g c =
     let read = c.in-Ok.parsed in
     let w = was_read _ _ _ _ _ _ read c.in-Ok.ensures.reads in
     let typed = c.in-Ok-judge_classes.ensures.typed refl in
-    let opened = two_opened (g.F.Files.opens c.args.files.now) (g.F.Files.opens c.read_parsed.new.files) (g.F.Files.opens c.read_lines.new.files) c.in-Ok.ensures.opened_once c.in-Err-read_lines.ensures.opened_once in
-    stops_at explore_program text_of status_of IsWritable _ _ _ _ _ _ (of_watch c.args.shown c.args.program.now c.args.claim.now) c.in-Err-read_lines.stop
+    let opened = two_opened (g.F.Files.opens c.args.files.now) (g.F.Files.opens c.read_parsed.new.files) (g.F.Files.opens c.read_named_lines.new.files) c.in-Ok.ensures.opened_once c.in-Err-read_named_lines.ensures.opened_once in
+    stops_at explore_program text_of status_of IsWritable _ _ _ _ _ _ (of_watch c.args.shown c.args.program.now c.args.claim.now) c.in-Err-read_named_lines.stop
     (reaches_record _ c.args.shown c.args.program.now c.args.claim.now w.0 w.1.0 (program_of read.program, ((read.names, w.2.parsed), typed)) opened)
     (record_fault w.0) (λ s q. q)
-    (since _ (g.F.Files.told c.args.files.now) (g.F.Files.opens c.args.files.now) (g.F.Files.faults c.args.files.now) _ _ _ _ _ _ c.in-Ok.ensures.same_texts w.3 c.in-Err-read_lines.ensures.reads)
+    (since _ (g.F.Files.told c.args.files.now) (g.F.Files.opens c.args.files.now) (g.F.Files.faults c.args.files.now) _ _ _ _ _ _ c.in-Ok.ensures.same_texts w.3 c.in-Err-read_named_lines.ensures.reads)
 
-pub returns-in-Err-read_lines-clause-unread_within : goal.returns-in-Err-read_lines-clause-unread_within
-returns-in-Err-read_lines-clause-unread_within g c =
-    let opened = two_opened (g.F.Files.opens c.args.files.now) (g.F.Files.opens c.read_parsed.new.files) (g.F.Files.opens c.read_lines.new.files) c.in-Ok.ensures.opened_once c.in-Err-read_lines.ensures.opened_once in
-    opened_within _ _ _ (inputs (of_watch c.args.shown c.args.program.now c.args.claim.now)) 1 I.Record c.args.claim.now refl opened c.in-Err-read_lines.ensures.unread_within
+pub returns-in-Err-read_named_lines-clause-unread_within : goal.returns-in-Err-read_named_lines-clause-unread_within
+returns-in-Err-read_named_lines-clause-unread_within g c =
+    let opened = two_opened (g.F.Files.opens c.args.files.now) (g.F.Files.opens c.read_parsed.new.files) (g.F.Files.opens c.read_named_lines.new.files) c.in-Ok.ensures.opened_once c.in-Err-read_named_lines.ensures.opened_once in
+    opened_within _ _ _ (inputs (of_watch c.args.shown c.args.program.now c.args.claim.now)) 1 I.Record c.args.claim.now refl opened c.in-Err-read_named_lines.ensures.unread_within
 
 pub returns-in-Ok-watched-clause-makes : goal.returns-in-Ok-watched-clause-makes
 returns-in-Ok-watched-clause-makes g c =
     let read = c.in-Ok.parsed in
-    let lines = c.in-Ok-read_lines.lines in
+    let lines = c.in-Ok-read_named_lines.read in
     let shown = c.args.shown in
     let made = c.in-Ok-watched.watched in
     let opens = g.F.Files.opens c.args.files.now in
     let w = was_read _ _ _ _ _ _ read c.in-Ok.ensures.reads in
     let v = was_read _ _ _ _ _ _ lines
-    (since _ (g.F.Files.told c.args.files.now) opens (g.F.Files.faults c.args.files.now) _ _ _ _ _ _ c.in-Ok.ensures.same_texts w.3 c.in-Ok-read_lines.ensures.reads) in
-    let opened = two_opened opens (g.F.Files.opens c.read_parsed.new.files) (g.F.Files.opens c.read_lines.new.files) c.in-Ok.ensures.opened_once c.in-Ok-read_lines.ensures.opened_once in
-    let shows = subst (λ (p : ProgramTree). IsTextOf shown p read.names lines made.text.items made.verdict) (ap program_of c.in-Ok-judge_classes.ensures.same.0)
-    (subst (λ ls. IsTextOf shown (program_of c.in-Ok-judge_classes.checked.program.now) read.names ls made.text.items made.verdict) c.items.ensures c.in-Ok-watched.ensures) in
+    (since _ (g.F.Files.told c.args.files.now) opens (g.F.Files.faults c.args.files.now) _ _ _ _ _ _ c.in-Ok.ensures.same_texts w.3 c.in-Ok-read_named_lines.ensures.reads) in
+    let opened = two_opened opens (g.F.Files.opens c.read_parsed.new.files) (g.F.Files.opens c.read_named_lines.new.files) c.in-Ok.ensures.opened_once c.in-Ok-read_named_lines.ensures.opened_once in
+    let shows = subst (λ (p : ProgramTree). IsTextOf shown p lines.names lines.lines made.text.items made.verdict) (ap program_of c.in-Ok-judge_classes.ensures.same.0)
+    (subst (λ ls. IsTextOf shown (program_of c.in-Ok-judge_classes.checked.program.now) lines.names ls made.text.items made.verdict) c.items.ensures c.in-Ok-watched.ensures) in
     watch_makes _ shown c.args.program.now c.args.claim.now w.0 v.0 read lines _ made.verdict w.1.0 w.2 (c.in-Ok-judge_classes.ensures.typed refl) v.1.0 v.2 opened v.1.1 v.1.2 v.3 shows
-    (λ u h. c.a_record_has_one_verdict.ensures _ _ u made.verdict h (judged_by shown _ read.names lines made.text.items made.verdict shows)) c.status_of_verdict.ensures
+    (λ u h. c.a_record_has_one_verdict.ensures _ _ u made.verdict h (judged_by shown _ lines.names lines.lines made.text.items made.verdict shows)) c.status_of_verdict.ensures
 
 pub returns-in-Ok-watched-clause-unread_within : goal.returns-in-Ok-watched-clause-unread_within
 returns-in-Ok-watched-clause-unread_within g c =
-    let opened = two_opened (g.F.Files.opens c.args.files.now) (g.F.Files.opens c.read_parsed.new.files) (g.F.Files.opens c.read_lines.new.files) c.in-Ok.ensures.opened_once c.in-Ok-read_lines.ensures.opened_once in
-    opened_within _ _ _ (inputs (of_watch c.args.shown c.args.program.now c.args.claim.now)) 1 I.Record c.args.claim.now refl opened c.in-Ok-read_lines.ensures.unread_within
+    let opened = two_opened (g.F.Files.opens c.args.files.now) (g.F.Files.opens c.read_parsed.new.files) (g.F.Files.opens c.read_named_lines.new.files) c.in-Ok.ensures.opened_once c.in-Ok-read_named_lines.ensures.opened_once in
+    opened_within _ _ _ (inputs (of_watch c.args.shown c.args.program.now c.args.claim.now)) 1 I.Record c.args.claim.now refl opened c.in-Ok-read_named_lines.ensures.unread_within
 
 pub returns-clause-unread_within : goal.returns-clause-unread_within
 returns-clause-unread_within g c =
-    let opened = two_opened (g.F.Files.opens c.args.files.now) (g.F.Files.opens c.read_parsed.new.files) (g.F.Files.opens c.read_lines.new.files) c.in-Ok.ensures.opened_once c.in-Ok-read_lines.ensures.opened_once in
-    opened_within _ _ _ (inputs (of_watch c.args.shown c.args.program.now c.args.claim.now)) 1 I.Record c.args.claim.now refl opened c.in-Ok-read_lines.ensures.unread_within
+    let opened = two_opened (g.F.Files.opens c.args.files.now) (g.F.Files.opens c.read_parsed.new.files) (g.F.Files.opens c.read_named_lines.new.files) c.in-Ok.ensures.opened_once c.in-Ok-read_named_lines.ensures.opened_once in
+    opened_within _ _ _ (inputs (of_watch c.args.shown c.args.program.now c.args.claim.now)) 1 I.Record c.args.claim.now refl opened c.in-Ok-read_named_lines.ensures.unread_within
