@@ -10,7 +10,7 @@ use Rattle.pool_relation.specs.Configuration.{Configuration}
 use Rattle.reachability.specs.Search.{IsAtEnd}
 use Rattle.reachability.specs.Renaming.{Renaming, renamed_item}
 use Rattle.reachability.specs.Outcomes.{EndsWith, IsOneOf, name_none, all_name_none}
-use Rattle.search_laws.specs.Renamed.{IsNameless}
+use Rattle.search_laws.specs.Renamed.{IsNameless, IsRenamed}
 use Rattle.search_laws.specs.Outcomes.{Passed, IsPassed, IsWholeWithChoices, EndsAlike}
 use Rattle.search_laws.specs.Tried.{with_writes}
 use Rattle.search_laws.proofs.Laws.{every_end_is_kept_by_choices, ends_alike, at_end_kept, items_are}
@@ -19,7 +19,7 @@ use Rattle.pool_search.specs.declared.outcomes.EndKind.TheVariants as K
 use Rattle.pool_search.specs.declared.outcomes.Outcome.{Outcome}
 use Rattle.visited_set.specs.VisitedConfigurations.{entry}
 use Rattle.pool_search.specs.FoundOutcomes.{HasOne, IsNoted}
-use Rattle.pool_search.specs.OutcomeTargets.{IsOfKind, IsShown, HasOutcome, HasAllOutcomes, outputs_of}
+use Rattle.pool_search.specs.OutcomeTargets.{IsOfKind, IsShown, HasOutcome, HasOutcomeOf, HasAllOutcomes, outputs_of}
 use Rattle.pool_search.specs.Trials.{CanMove}
 use Rattle.pool_search.specs.Progress.{Entries, IsReachedWith, IsSearchedTo}
 use Rattle.visited_set.proofs.Laws.{each_more}
@@ -33,16 +33,30 @@ kind_before K.Stuck p c d a h = (a.stuck_back h.0, λ f. h.1 (a.faulty f))
 kind_before K.Left p c d a h = (a.unfinished_back h.0, λ s. h.1 (a.stuck s), λ f. h.2 (a.faulty f))
 kind_before K.Done p c d a h = (λ u. h.0 (a.unfinished u), λ f. h.1 (a.faulty f))
 
-has_before : (p : ProgramTree) (os : List Outcome) (w : List Item) (c d : Configuration) → EndsAlike p c d → HasOutcome p os w d → HasOutcome p os w c
-has_before p [] w c d a h = h
-has_before p (o ∷ os) w c d a (inl h) = inl (h.0, kind_before o.kind p c d a h.1)
-has_before p (o ∷ os) w c d a (inr h) = inr (has_before p os w c d a h)
+-- if no outcome of the list names an object, a run has its outcome as it stands
+as_it_stands : (p : ProgramTree) (os : List Outcome) (w : List Item) (d : Configuration) → all_name_none (outputs_of os) ≡ true → HasOutcomeOf p os w d → HasOutcome p os w d
+as_it_stands p [] w d n h = absurd h
+as_it_stands p (o ∷ os) w d n (inl h) =
+    let none = ap name_none (sym h.wrote) ∙ first (name_none o.items.items) (all_name_none (outputs_of os)) n in
+    inl (h.wrote ∙ items_are h.names.to w none, h.kind)
+as_it_stands p (o ∷ os) w d n (inr h) = inr (as_it_stands p os w d (second (name_none o.items.items) (all_name_none (outputs_of os)) n) h)
 
--- an outcome of the list that names no object
-names_none_at : (p : ProgramTree) (os : List Outcome) (w : List Item) (d : Configuration) → all_name_none (outputs_of os) ≡ true → HasOutcome p os w d → name_none w ≡ true
-names_none_at p [] w d n h = absurd h
-names_none_at p (o ∷ os) w d n (inl h) = ap name_none (sym h.0) ∙ first (name_none o.items.items) (all_name_none (outputs_of os)) n
-names_none_at p (o ∷ os) w d n (inr h) = names_none_at p os w d (second (name_none o.items.items) (all_name_none (outputs_of os)) n) h
+-- an end that the list has under other names shows the outcome of a run
+outcome_under : (p : ProgramTree) (os : List Outcome) (w : List Item) (d e : Configuration) (f : Renaming) → IsRenamed f.to d e → EndsAlike p d e → IsAtEnd p e
+    → IsReachedWith p with_writes (map (renamed_item f.to) w) e → HasOutcome p os (map (renamed_item f.to) w) e → HasOutcomeOf p os w d
+outcome_under p [] w d e f same alike ended reached h = absurd h
+outcome_under p (o ∷ os) w d e f same alike ended reached (inr h) = inr (outcome_under p os w d e f same alike ended reached h)
+outcome_under p (o ∷ os) w d e f same alike ended reached (inl h) = inl (record {
+  names = f;
+  labels = reached.labels;
+  shows = record {
+    leads = record { first = reached.first; last = e; starts = reached.starts; leads = reached.leads; holds = record { at_end = ended; kind = h.1 } };
+    writes = sym (gathers_writes p reached.labels) ∙ reached.kept ∙ sym h.0;
+  };
+  same = same;
+  wrote = h.0;
+  kind = kind_before o.kind p d e alike h.1;
+})
 
 is_one_of : (p : ProgramTree) (os : List Outcome) (w : List Item) (d : Configuration) → HasOutcome p os w d → IsOneOf w (outputs_of os)
 is_one_of p [] w d h = h
@@ -62,18 +76,18 @@ no_outcome_is_missing p os es at less all s = record { under_names = under; exac
     whole : IsWholeWithChoices p es
     whole = whole_by_visits p (IsNoted p os) es at less all s
 
-    under : (w : List Item) (d : Configuration) → EndsWith p w d → (f : Renaming) × HasOutcome p os (map (renamed_item f.to) w) d
+    under : (w : List Item) (d : Configuration) → EndsWith p w d → HasOutcomeOf p os w d
     under w d e =
         let k = every_end_is_kept_by_choices p es w d less whole e in
+        let v = map (renamed_item k.names.to) w in
         let ended : IsAtEnd p k.seen = at_end_kept k.names p d k.seen less k.same e.at_end in
-        let noted = each_in (IsNoted p os) es k.next (map (renamed_item k.names.to) w) k.seen (visited_all p with_writes (IsNoted p os) es at all s) k.is_in ended in
-        (k.names, has_before p os (map (renamed_item k.names.to) w) d k.seen (ends_alike k.names p d k.seen less k.same e.at_end) noted)
+        let noted = each_in (IsNoted p os) es k.next v k.seen (visited_all p with_writes (IsNoted p os) es at all s) k.is_in ended in
+        let reached = each_in (λ (x : Passed). IsReachedWith p with_writes x.items x.configuration) es k.next v k.seen s.reached k.is_in in
+        outcome_under p os w d k.seen k.names k.same (ends_alike k.names p d k.seen less k.same e.at_end) ended reached noted
 
     exact : all_name_none (outputs_of os) ≡ true → (w : List Item) (d : Configuration) → EndsWith p w d → IsOneOf w (outputs_of os) × HasOutcome p os w d
     exact none w d e =
-        let u = under w d e in
-        let v = map (renamed_item u.0.to) w in
-        let has = subst (λ (x : List Item). HasOutcome p os x d) (items_are u.0.to w (names_none_at p os v d none u.1)) u.1 in
+        let has = as_it_stands p os w d none (under w d e) in
         (is_one_of p os w d has, has)
 
 -- an outcome that was found is that of an end

@@ -23,7 +23,7 @@ use Rattle.pool_search.specs.Leads.{IsEdge}
 use Rattle.pool_search.specs.Progress.{Entries}
 use Rattle.reachability.specs.Outcomes.{written}
 use Rattle.pool_search.specs.declared.outcomes.Outcome.{Outcome}
-use Rattle.pool_search.specs.OutcomeTargets.{IsEndOf, IsRunOf}
+use Rattle.pool_search.specs.OutcomeTargets.{IsEndOf, IsRunInOrder}
 use Rattle.pool_search.specs.SearchAnswers.{IsAnswer}
 use Rattle.pool_search.specs.SearchTargets.{IsWantedDead, LeadsInOrder, wants_stuck}
 use Rattle.pool_search.specs.declared.queries.Query.{Query}
@@ -167,17 +167,8 @@ dead_in_order a b ls n names starts h dead q asked =
     let d = dead (reached_in_order a b ls n starts h) in
     leads_in_order (program_tree a) a b ls n (λ (p : ProgramTree). IsWantedDead p q names.items) refl starts h (record { asked = asked; some = d.0; dead = d.1 })
 
-pub run_to_end : (a b : Plain) (xs ys : List Label) (o : Outcome) → start (program_tree a) 0 ≡ Some (configuration_of a) → xs ≡ [] → HasShown a b xs ys → IsEndOf o.kind (program_tree b) (configuration_of b)
-    → written ys ≡ o.items.items → IsRunOf (program_tree a) o ys
-run_to_end a b xs ys o starts none h ends writes =
-    let is : h.added ≡ ys = sym (h.is ∙ ap (λ ls. ls ++ h.added) none) in
-    record {
-      leads = record {
-        first = configuration_of a;
-        last = configuration_of b;
-        starts = starts;
-        leads = subst (λ (ls : List Label). run (program_tree a) (configuration_of a) ls ≡ Some (configuration_of b)) is h.ran.leads;
-        holds = subst (λ (p : ProgramTree). IsEndOf o.kind p (configuration_of b)) h.ran.program ends;
-      };
-      writes = writes;
-    }
+pub run_to_end : (a b : Plain) (ls : List Label) (n : ℕ) (o : Outcome) → start (program_tree a) 0 ≡ Some (configuration_of a) → HasRetraced a b ls n → IsEndOf o.kind (program_tree b) (configuration_of b)
+    → written ls ≡ o.items.items → IsRunInOrder (program_tree a) o ls
+run_to_end a b ls n o starts h ends writes =
+    let to_end = leads_in_order (program_tree a) a b ls n (IsEndOf o.kind) refl starts h ends in
+    (record { leads = to_end.0; writes = writes }, to_end.1)

@@ -10,7 +10,7 @@ use Rattle.pool_search.specs.declared.outcomes.EndKind.{EndKind}
 use Rattle.pool_search.specs.declared.outcomes.Outcome.{Outcome}
 use Rattle.pool_search.specs.declared.outcomes.OutcomeRun.{OutcomeRun}
 use Rattle.pool_search.specs.declared.outcomes.OutcomeRun.TheVariants as R
-use Rattle.pool_search.specs.OutcomeTargets.{HasOutcome, IsRunOf}
+use Rattle.pool_search.specs.OutcomeTargets.{HasOutcome, IsRunInOrder}
 
 abbrev pub outcome : EndKind → Vec Item Global → Outcome
 outcome k w = record { kind = k; items = w }
@@ -26,6 +26,6 @@ IsNoted p os e = IsAtEnd p e.configuration → HasOutcome p os e.items e.configu
 
 -- the result is a run with its outcome
 abbrev pub IsShownRun : ProgramTree → OutcomeRun → Type 0
-IsShownRun p (R.Shown o ls) = IsRunOf p o ls
+IsShownRun p (R.Shown o ls) = IsRunInOrder p o ls
 IsShownRun p (R.Finite k) = ⊥
 IsShownRun p (R.Over k) = ⊥

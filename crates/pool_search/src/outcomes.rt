@@ -10,7 +10,7 @@ ghost use Rattle.reachability.specs.Outcomes.{written};
 ghost use Rattle.visited_set.specs.Courses.{course_of};
 ghost use Rattle.pool_search.specs.Entries.{entries, lists, searched};
 ghost use Rattle.pool_search.specs.FoundOutcomes.{IsNoted, IsShownRun};
-ghost use Rattle.pool_search.specs.OutcomeTargets.{IsEndOf, IsShown, IsRunOf, HasAllOutcomes};
+ghost use Rattle.pool_search.specs.OutcomeTargets.{IsEndOf, IsShown, IsRunInOrder, HasAllOutcomes};
 ghost use Rattle.pool_search.specs.Progress.{AllInOrder, AllReached, HasSearched, IsSearchedTo};
 ghost use Rattle.pool_search.specs.declared.outcomes.Outcome.{Outcome as OneOutcome};
 
@@ -18,7 +18,7 @@ use crate::choices::Trial;
 use crate::ends::{Ends, kind_of, written_by};
 use crate::explored::Explored;
 use crate::progress::Progress;
-use crate::retracing::{retrace, way_to};
+use crate::retracing::{retrace_in_order, way_to};
 use crate::scope::Scope;
 use crate::searching::begin;
 use class_check::Checked;
@@ -62,7 +62,8 @@ pub struct Outcomes {
 /// A run with one of the outcomes, or the end of the search if there is no such outcome.
 #[derive(Drop)]
 pub enum OutcomeRun {
-    /// The outcome, and the labels of a run with this outcome. The first object has the name 0.
+    /// The outcome, and the labels of a run with this outcome. The first object has the name 0, and new objects have the
+    /// names 1, 2, .. in order.
     Shown { outcome: Outcome, labels: LabelList },
     /// The list of outcomes is complete, and this one is not in it. The number of configurations that the search kept.
     Finite(u32),
@@ -245,7 +246,8 @@ fn outcome_at(
 }
 
 /// The outcome of the run of these indexes from the start, where the stepper is. Its labels become `labels`. None if
-/// the run cannot be repeated, or a label is possible at its end. An error means out of memory.
+/// the run cannot be repeated, if it does not name new objects in order, or if a label is possible at its end. An error
+/// means out of memory.
 fn outcome_after(
     alloc: Global,
     plain: &mut Plain<'_>,
@@ -255,17 +257,17 @@ fn outcome_after(
     requires fresh { is_spent plain.old ≡ false }
     requires start { start (program_tree plain.old) 0 ≡ Some (configuration_of plain.old) }
     requires none { labels.old ≡ [] }
-    ensures { IfOk result (λ r. IfSome r (λ o. IsRunOf (program_tree plain.old) o labels.new)) }
+    ensures { IfOk result (λ r. IfSome r (λ o. IsRunInOrder (program_tree plain.old) o labels.new)) }
 {
-    match retrace(alloc, plain, Keeps::Writes, way, labels) {
-        Ok(true) => outcome_at(alloc, plain, labels),
-        Ok(false) => Ok(None),
+    match retrace_in_order(alloc, plain, Keeps::Writes, way, labels) {
+        Ok(Some(_)) => outcome_at(alloc, plain, labels),
+        Ok(None) => Ok(None),
         Err(_) => Err(AllocError),
     }
 }
 
-/// The run of these indexes as a run with an outcome. None if the run cannot be repeated, or a label is possible at its
-/// end. An error means out of memory.
+/// The run of these indexes as a run with an outcome. None where there is no outcome after it. An error means out of
+/// memory.
 fn show_run(
     alloc: Global,
     program: &Checked<'_>,
@@ -293,7 +295,7 @@ fn run_at(
     place: u32,
 ) -> Result<OutcomeRun, AllocError>
     requires { whole ≡ true → HasAllOutcomes (program_of program.now.program.now) ends.now.list.items }
-    ensures shown { IfOk result (λ r. (o : OneOutcome) (ls : List Label) → r ≡ OutcomeRun.Shown o ls → IsRunOf (program_of program.now.program.now) o ls) }
+    ensures shown { IfOk result (λ r. (o : OneOutcome) (ls : List Label) → r ≡ OutcomeRun.Shown o ls → IsRunInOrder (program_of program.now.program.now) o ls) }
     ensures finite { IfOk result (λ r. (k : ℕ) → r ≡ OutcomeRun.Finite k → (os : List OneOutcome) × HasAllOutcomes (program_of program.now.program.now) os × (length os ≤ place)) }
     ensures within { IfOk result (λ r. (k : ℕ) → (r ≡ OutcomeRun.Finite k) ⊎ (r ≡ OutcomeRun.Over k) → k ≤ most) }
 {
@@ -328,7 +330,7 @@ fn run_from<'a, P: Progress>(
     requires program { searched explored.old ≡ program_of program.now.program.now }
     requires none { entries explored.old ≡ [] }
     requires lists { lists explored.old ≡ [] ∷ [] }
-    ensures shown { IfOk result (λ r. (o : OneOutcome) (ls : List Label) → r ≡ OutcomeRun.Shown o ls → IsRunOf (program_of program.now.program.now) o ls) }
+    ensures shown { IfOk result (λ r. (o : OneOutcome) (ls : List Label) → r ≡ OutcomeRun.Shown o ls → IsRunInOrder (program_of program.now.program.now) o ls) }
     ensures finite { IfOk result (λ r. (k : ℕ) → r ≡ OutcomeRun.Finite k → (os : List OneOutcome) × HasAllOutcomes (program_of program.now.program.now) os × (length os ≤ place)) }
     ensures within { IfOk result (λ r. (k : ℕ) → (r ≡ OutcomeRun.Finite k) ⊎ (r ≡ OutcomeRun.Over k) → k ≤ most) }
 {
@@ -348,7 +350,7 @@ pub fn outcome_run<P: Progress>(
     place: u32,
     progress: &mut P,
 ) -> Result<OutcomeRun, AllocError>
-    ensures shown { IfOk result (λ r. (o : OneOutcome) (ls : List Label) → r ≡ OutcomeRun.Shown o ls → IsRunOf (program_of program.now.program.now) o ls) }
+    ensures shown { IfOk result (λ r. (o : OneOutcome) (ls : List Label) → r ≡ OutcomeRun.Shown o ls → IsRunInOrder (program_of program.now.program.now) o ls) }
     ensures finite { IfOk result (λ r. (k : ℕ) → r ≡ OutcomeRun.Finite k → (os : List OneOutcome) × HasAllOutcomes (program_of program.now.program.now) os × (length os ≤ place)) }
     ensures within { IfOk result (λ r. (k : ℕ) → (r ≡ OutcomeRun.Finite k) ⊎ (r ≡ OutcomeRun.Over k) → k ≤ most) }
 {

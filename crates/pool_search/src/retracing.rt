@@ -81,7 +81,7 @@ fn pass_at(
 
 /// Repeats a run from the start. `way` has the indexes of its labels, the last first.
 /// `false` if a label is impossible or a bound is met. An error means out of memory.
-pub fn retrace(
+fn retrace(
     alloc: Global,
     plain: &mut Plain<'_>,
     keeps: Keeps,
@@ -105,11 +105,12 @@ pub fn retrace(
     Ok(true)
 }
 
-/// Repeats a run of a search for states in the same way, and returns the next free name after it. None also if its
-/// labels do not give new objects the names 1, 2, .. in order, or if no name of 32 bits is left.
+/// Repeats a run in the same way, and returns the next free name after it. None also if its labels do not give new
+/// objects the names 1, 2, .. in order, or if no name of 32 bits is left.
 pub fn retrace_in_order(
     alloc: Global,
     plain: &mut Plain<'_>,
+    keeps: Keeps,
     way: &[u32],
     shown: &mut LabelList,
 ) -> Result<Option<u32>, AllocError>
@@ -117,7 +118,7 @@ pub fn retrace_in_order(
     requires none { shown.old ≡ [] }
     ensures { IfOk result (λ o. IfSome o (λ n. HasRetraced plain.old plain.new shown.new n)) }
 {
-    match retrace(alloc, plain, Keeps::States, way, shown) {
+    match retrace(alloc, plain, keeps, way, shown) {
         Ok(true) => Ok(next_after(1, shown)),
         Ok(false) => Ok(None),
         Err(_) => Err(AllocError),
@@ -138,7 +139,7 @@ fn judge_end(
     ensures stuck { result ≡ Ok Classification.Stuck → ((n : ℕ) × HasRetraced plain.old plain.new shown.new n) × IsWantedEnd (program_tree plain.new) question.now (configuration_of plain.new) }
     ensures fault { result ≡ Ok Classification.Fault → ((n : ℕ) × HasRetraced plain.old plain.new shown.new n) × IsShownFault (program_tree plain.new) question.now (configuration_of plain.new) }
 {
-    match retrace_in_order(alloc, plain, way, shown) {
+    match retrace_in_order(alloc, plain, Keeps::States, way, shown) {
         Ok(Some(_)) => Ok(judge(plain, question)),
         Ok(None) => Ok(Classification::Neither),
         Err(_) => Err(AllocError),

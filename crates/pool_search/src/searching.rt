@@ -67,7 +67,7 @@ fn dead_after<'a>(
     ensures { IfOk result (λ r. IfSome r (λ names. (q : Query) → wants_stuck q.wanted ≡ true → IsAnswer (program_tree plain.old) q (SearchResult.Dead labels.new names))) }
 {
     let way = way_to(alloc, &explored.origins, at)?;
-    match retrace_in_order(alloc, plain, &way, labels) {
+    match retrace_in_order(alloc, plain, Keeps::States, &way, labels) {
         Ok(Some(next)) => explored.dead_where(waiters, plain, at, next),
         Ok(None) => Ok(None),
         Err(_) => Err(AllocError),

@@ -3,6 +3,7 @@ pub mod Dead
 pub mod StubbornSets
 pub mod FreeSettling
 pub mod PutOff
+pub mod RenamedConfigurations
 -- Internal: what it does not.
 pub mod Renamed
 pub mod ClosedLists

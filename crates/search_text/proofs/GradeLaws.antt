@@ -10,12 +10,11 @@ use Rattle.pool_relation.specs.Action as N
 use Rattle.pool_relation.specs.Action.{Action, action}
 use Rattle.pool_relation.specs.Configuration.{Configuration}
 use Rattle.reachability.specs.Outcomes.{EndsWith}
-use Rattle.reachability.specs.Renaming.{renamed_item}
 use Rattle.reachability.specs.Search.{AnObject, IsFaulty, IsReached, IsStuck, IsUnfinished, is_in_call, is_left_over}
 use Rattle.pool_search.specs.declared.outcomes.EndKind.{EndKind}
 use Rattle.pool_search.specs.declared.outcomes.EndKind.TheVariants as K
 use Rattle.pool_search.specs.declared.outcomes.Outcome.{Outcome}
-use Rattle.pool_search.specs.OutcomeTargets.{HasAllOutcomes, HasOutcome, IsOfKind, IsShown}
+use Rattle.pool_search.specs.OutcomeTargets.{HasAllOutcomes, HasOutcomeOf, IsOfKind, IsShown}
 use Rattle.search_text.specs.Answers as A
 use Rattle.search_text.specs.Answers.{Answers, Grades, GradesEnds, any_wrong}
 use Rattle.search_text.specs.GradedRuns.{EndsAllowed, IsWell, RunsWell, SomeRunEnds}
@@ -68,23 +67,24 @@ end_is_well K.Stuck p d well is = absurd (cc well)
 end_is_well K.Left p d well is = (is.2, is.1)
 end_is_well K.Done p d well is = (is.1, λ s. is.0 (unfinished_if_stuck p d s))
 
--- the outcome of the list that an end has is allowed
-allowed_end : (names allowed : List Text) (p : ProgramTree) (list : List Outcome) (w : List Item) (d : Configuration) → Each (λ o. is_allowed allowed names o ≡ true) list → HasOutcome p list w d
-    → (¬ (IsFaulty d) × ¬ (IsStuck p d)) × (is_one_of (joined (map (item_text names) w)) allowed ≡ true)
+-- a run whose outcome is in a list of allowed ones ends well
+allowed_end : (names allowed : List Text) (p : ProgramTree) (list : List Outcome) (w : List Item) (d : Configuration) → Each (λ o. is_allowed allowed names o ≡ true) list → HasOutcomeOf p list w d
+    → EndsAllowed names allowed p w d
 allowed_end names allowed p [] w d each has = absurd has
 allowed_end names allowed p (o ∷ os) w d each (inl has) =
-    let parts = and_parts (ends_well o.kind) (is_one_of (output_text names o) allowed) each.0 in (
-      end_is_well o.kind p d parts.0 has.1,
-      subst (λ (x : List Item). is_one_of (joined (map (item_text names) x)) allowed ≡ true) has.0 parts.1,
-    )
+    let parts = and_parts (ends_well o.kind) (is_one_of (output_text names o) allowed) each.0 in
+    let well = end_is_well o.kind p d parts.0 has.kind in
+    record {
+      no_error = well.0;
+      none_in_a_call = well.1;
+      renaming = has.names;
+      output = subst (λ (x : List Item). is_one_of (joined (map (item_text names) x)) allowed ≡ true) has.wrote parts.1;
+    }
 allowed_end names allowed p (o ∷ os) w d each (inr has) = allowed_end names allowed p os w d each.1 has
 
 each_run : (names allowed : List Text) (p : ProgramTree) (list : List Outcome) → HasAllOutcomes p list → Each (λ o. is_allowed allowed names o ≡ true) list → (w : List Item) (d : Configuration)
     → EndsWith p w d → EndsAllowed names allowed p w d
-each_run names allowed p list all each w d ends =
-    let found = all.under_names w d ends in
-    let good = allowed_end names allowed p list (map (renamed_item found.0.to) w) d each found.1 in
-    record { no_error = good.0.0; none_in_a_call = good.0.1; renaming = found.0; output = good.1 }
+each_run names allowed p list all each w d ends = allowed_end names allowed p list w d each (all.under_names w d ends)
 
 -- an answer that found nothing shows that there is nothing
 pub finite_of : (names : List Text) (p : ProgramTree) (q : Query) (text : Text) (found : Found) → Answers names p q text found → found ≡ O.Finite → (kept : ℕ) × IsFinite p q kept

@@ -1,7 +1,8 @@
 -- The text of the result of a search; steps are written as in a record.
-use Rattle.std.specs.Prelude.{ℕ, List, [], ◌∷◌, ◌++◌, Bool, true, false, codes, decimal, map}
+use Rattle.std.specs.Prelude.{ℕ, List, [], ◌∷◌, ◌++◌, Bool, true, false, codes, decimal, if◌then◌else◌, map}
 use Rattle.text_scan.specs.Text.{Text}
 use Rattle.run_types.specs.declared.types.Label.{Label}
+use Rattle.run_types.specs.declared.types.Label.TheVariants as L
 use Rattle.record_writer.specs.RecordText.{item_text, label_words}
 use Rattle.pool_search.specs.declared.outcomes.EndKind.{EndKind}
 use Rattle.pool_search.specs.declared.outcomes.EndKind.TheVariants as K
@@ -19,15 +20,37 @@ abbrev pub steps_text : List Text → List (Label × ℕ) → Text
 steps_text names [] = []
 steps_text names (s ∷ rest) = step_line names s ++ steps_text names rest
 
+-- the label is a run-time error
+abbrev pub is_error : Label → Bool
+is_error (L.Fault o e) = true
+is_error (L.Local o) = false
+is_error (L.New o p c) = false
+is_error (L.Answer p o m args) = false
+is_error (L.Return p o v) = false
+is_error (L.Send o p m args) = false
+is_error (L.Take p o m args) = false
+is_error (L.Write o item) = false
+is_error (L.Pick o i) = false
+
+-- a run-time error that an object has met, in the words of a record
+abbrev pub error_line : List Text → Label → Text
+error_line names l = line (codes "met" ∷ label_words names l 1)
+
+-- the run-time errors of a run
+abbrev pub errors_text : List Text → List Label → Text
+errors_text names [] = []
+errors_text names (l ∷ ls) = (if is_error l then error_line names l else []) ++ errors_text names ls
+
 -- the end of a search, with a number
 abbrev pub end_line : Text → ℕ → Text
 end_line word n = line (codes "end" ∷ word ∷ decimal n ∷ [])
 
--- a run that gets stuck: its steps, the objects that wait at its end,
--- the cycles of calls, and the number of transitions that are not local
+-- a run that gets stuck: its steps, the run-time errors that were met in it, the objects that wait at its end, the cycles
+-- of calls, and the number of transitions that are not local
 abbrev pub stuck_text : List Text → List Label → List ObjectRow → Text
 stuck_text names ls rows =
-    steps_text names (steps ls) ++ (waits_text names rows ++ (cycles_text (cycles_in rows) ++ end_line (codes "stuck") (other_than_local ls)))
+    steps_text names (steps ls)
+    ++ (errors_text names ls ++ (waits_text names rows ++ (cycles_text (cycles_in rows) ++ end_line (codes "stuck") (other_than_local ls))))
 
 -- a run that meets a run-time error, and the number of its transitions that are not local
 abbrev pub fault_text : List Text → List Label → Text

@@ -8,7 +8,7 @@ use Rattle.pool_search.specs.declared.queries.Target.TheVariants as W
 use Rattle.pool_search.specs.SearchTargets.{LeadsInOrder, IsWantedEnd, IsWantedDead, IsShownFault, IsFinite}
 use Rattle.run_types.specs.Tables.{Each}
 use Rattle.pool_search.specs.declared.outcomes.Outcome.{Outcome}
-use Rattle.pool_search.specs.OutcomeTargets.{HasAllOutcomes, IsRunOf, IsShown}
+use Rattle.pool_search.specs.OutcomeTargets.{HasAllOutcomes, IsRunInOrder, IsShown}
 use Rattle.search_text.specs.ChosenRows.{rows_of}
 use Rattle.search_text.specs.AnswerText.{ending, fault_text, finite_text, outcomes_text, over_text, run_text, running_text, stuck_text, wrong_text}
 use Rattle.search_text.specs.Grading.{is_allowed}
@@ -45,10 +45,10 @@ pub record TellsOutcomes (names : List Text) (p : ProgramTree) (most : ℕ) (tex
   pub says : text ≡ outcomes_text names list ++ ending whole kept
   pub is : found ≡ found_of whole
 
--- A run from the start with the outcome at this place, counted from 1. Or the list of outcomes is complete and ends
--- before this place, or the list may not be complete.
+-- A run from the start with an outcome, that of the place in the list, counted from 1. It gives new objects the names
+-- 1, 2, .. in order. Or the list of outcomes is complete and ends before this place, or the list may not be complete.
 pub data ShowsRun (names : List Text) (p : ProgramTree) (place most : ℕ) (text : Text) (found : Found) : Type 0 where
-  run : (o : Outcome) (ls : List Label) → IsRunOf p o ls → text ≡ run_text names o.kind ls → found ≡ O.Run → ShowsRun names p place most text found
+  run : (o : Outcome) (ls : List Label) → IsRunInOrder p o ls → text ≡ run_text names o.kind ls → found ≡ O.Run → ShowsRun names p place most text found
   missing : (list : List Outcome) (kept : ℕ) → HasAllOutcomes p list → length list ≤ place - 1 → kept ≤ most → text ≡ finite_text kept → found ≡ O.Missing → ShowsRun names p place most text found
   unknown : (kept : ℕ) → kept ≤ most → text ≡ over_text kept → found ≡ O.Over → ShowsRun names p place most text found
 
@@ -59,7 +59,7 @@ pub data GradesEnds (names : List Text) (p : ProgramTree) (allowed : List Text) 
   passes : (list : List Outcome) (kept : ℕ) → HasAllOutcomes p list → Each (IsShown p) list → Each (λ o. is_allowed allowed names o ≡ true) list → (may_run_on ≡ false → 0 < length list) → kept ≤ most
       → text ≡ outcomes_text names list ++ finite_text kept → found ≡ O.Finite → GradesEnds names p allowed may_run_on most text found
   running : (kept : ℕ) → HasAllOutcomes p [] → may_run_on ≡ false → kept ≤ most → text ≡ running_text kept → found ≡ O.Running → GradesEnds names p allowed may_run_on most text found
-  fails : (o : Outcome) (ls : List Label) → IsRunOf p o ls → is_allowed allowed names o ≡ false → text ≡ wrong_text names o ls → found ≡ O.Shown → GradesEnds names p allowed may_run_on most text found
+  fails : (o : Outcome) (ls : List Label) → IsRunInOrder p o ls → is_allowed allowed names o ≡ false → text ≡ wrong_text names o ls → found ≡ O.Shown → GradesEnds names p allowed may_run_on most text found
   unknown : (list : List Outcome) (kept : ℕ) → Each (IsShown p) list → kept ≤ most → text ≡ outcomes_text names list ++ over_text kept → found ≡ O.Over → GradesEnds names p allowed may_run_on most text found
 
 -- the query for a dead object or a run-time error, anywhere in a run

@@ -6,6 +6,7 @@ ghost use Rattle.search_text.specs.declared.answers.Found.TheVariants as O;
 ghost use Rattle.wait_report.specs.Calls.{names_of, Rising};
 
 use crate::answers::{Answer, Found};
+use crate::errors::push_errors;
 use crate::steps::{other_than_local, push_steps};
 use label_list::LabelList;
 use pool_search::{EndKind, Outcome};
@@ -25,9 +26,8 @@ fn push_end(text: &mut Vec<u8>, word: &[u8], count: usize) -> Result<(), AllocEr
     text.extend_from_slice(b"\n")
 }
 
-/// The answer for a run that gets stuck: its steps, the objects
-/// that wait at its end, the cycles of calls, and the end line.
-/// Requires rows with rising names. An error means out of memory.
+/// The answer for a run that gets stuck: its steps, the errors that were met in it, the objects that wait at its end, the
+/// cycles of calls, and the end line. Requires rows with rising names. An error means out of memory.
 pub fn waiting_answer(
     alloc: Global,
     names: &Names,
@@ -39,6 +39,7 @@ pub fn waiting_answer(
 {
     let mut text = Vec::new(alloc);
     put!(push_steps(&mut text, names, labels));
+    put!(push_errors(&mut text, names, labels));
     put!(push_waiting(&mut text, names, rows));
     put!(put_each_cycle(alloc, &mut text, rows));
     put!(push_end(&mut text, b"stuck", other_than_local(labels)));

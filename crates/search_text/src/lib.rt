@@ -15,6 +15,7 @@ macro_rules! put {
 mod answer;
 mod answers;
 mod chosen;
+mod errors;
 mod grading;
 mod shown;
 mod steps;
