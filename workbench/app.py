@@ -295,7 +295,8 @@ def make(jobs, shown, programs, tries=None, proved=True):
                 if not isinstance(it, Done):
                     yield it
                 elif it.status in (0, 1, 3):
-                    yield question.answer(it)
+                    found = question.answer(it)
+                    yield {**found, "waits": runs.stopped(job, program, it.out)} if found["run"] else found
                 else:
                     fault = runs.refused(job, it, "program")
                     yield {"error": fault} if fault else runs.trouble(it)

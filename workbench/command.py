@@ -19,7 +19,7 @@ def stop(says, status=2):
 
 def programs_of():
     """The programs and scripts that are run, and whether the programs are proved."""
-    found = {name: f"{TOP}/tools/{name}" for name in ("where", "fair", "stuck", "page")}
+    found = {name: f"{TOP}/tools/{name}" for name in ("where", "fair", "stuck", "place", "page")}
     for word, name in (("POOL", "pool"), ("EXPLORE", "explore")):
         if os.environ.get(word):
             found[name] = os.path.abspath(os.environ[word])

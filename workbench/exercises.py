@@ -85,16 +85,9 @@ def cut(watched, classes):
     return "".join(kept(line, names) + "\n" for line in watched.splitlines())
 
 
-def record_of(found):
-    """The record of the run that a search shows."""
-    steps = [line[5:] for line in found.splitlines() if line.startswith("step ")]
-    end = "schedule" if found.splitlines()[-1].startswith("end fault") else "quiet"
-    return "".join(f"{i} turn 0 {it}\n" for i, it in enumerate(steps, 1)) + f"end {end} {len(steps)}\n"
-
-
 def page_of(job, check, answer, found, title):
     """The page of a run that a search shows. Of the program it has the answer alone."""
-    record = record_of(found)
+    record = runs.record_of(found)
     job.write("record", record)
     watched = job.explore("watch", "program", "record", most=16 << 20)
     if watched.lines[-1:][0].startswith("no end"):   # some objects go on
@@ -126,26 +119,25 @@ def steps(job, exercise, answer):
     answer = answer if answer.endswith("\n") or not answer else answer + "\n"
     for check in exercise.checks:
         job.write("program", answer + check.text)
-        for words in (("grade", "program", str(BOUND), *check.outputs), ("search", "program", str(BOUND))):
-            done = None
-            for told in job.steps([job.jobs.programs["explore"], *words], counts=True):
-                if isinstance(told, str):
-                    yield told
-                else:
-                    done = told
-            told = verdict(job, check, answer, done, words[0] == "grade")
-            if told:
-                yield {"passed": False, **told}
-                return
+        done = None
+        for told in job.steps([job.jobs.programs["explore"], "grade", "program", str(BOUND), *check.outputs], counts=True):
+            if isinstance(told, str):
+                yield told
+            else:
+                done = told
+        told = verdict(job, check, answer, done)
+        if told:
+            yield {"passed": False, **told}
+            return
     yield {"passed": True, "says": "Passed: every run that ends does what the exercise asks, with any placement and schedule, and none leads to an error or a deadlock."}
 
 
-def verdict(job, check, answer, done, graded):
-    """What is told where the answer does not pass; nothing where this call lets it pass."""
+def verdict(job, check, answer, done):
+    """What is told where the answer does not pass this check; nothing where it does."""
     if done.status == 2:
         return misfit(job, check, answer, done)
     last = done.lines[-1].split(" ") if done.lines else ["", "", ""]
-    if done.status == 3 and last[1] == "running" or done.status == 0 and graded and not any(line.startswith("wrote ") for line in done.lines):
+    if done.status == 3 and last[1] == "running":
         return {"says": "No run of your program ends: some object is busy for ever."}
     if done.status == 0:
         return None
@@ -162,8 +154,9 @@ def verdict(job, check, answer, done, graded):
     elif kind == "stuck":
         says = "Not passed: a run comes to an object that waits in a call for good" + (f". It wrote {items}." if items else ", and nothing is written.")
     else:
-        says = f"Not passed: a run writes {items}, which is not allowed." if items else "Not passed: a run ends and writes nothing."
-    return {"says": says, "html": page_of(job, check, answer, done.out, "why it is not passed"), "others": bool(check.classes)}
+        says = f"Not passed: a run writes {items}, which the exercise does not ask for." if items else "Not passed: a run ends and writes nothing."
+    waits = [it if it.get("line", 0) <= answer.count("\n") else {"text": it["text"]} for it in runs.stopped(job, answer + check.text, done.out)]
+    return {"says": says, "html": page_of(job, check, answer, done.out, "why it is not passed"), "others": bool(check.classes), "waits": waits}
 
 
 def keep(file, who, name, passed):

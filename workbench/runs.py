@@ -126,6 +126,49 @@ def places(text):
     return found
 
 
+def record_of(found):
+    """The record of the run that a search shows."""
+    steps = [line[5:] for line in found.splitlines() if line.startswith("step ")]
+    end = "schedule" if found.splitlines()[-1].startswith("end fault") else "quiet"
+    return "".join(f"{i} turn 0 {it}\n" for i, it in enumerate(steps, 1)) + f"end {end} {len(steps)}\n"
+
+
+def stopped(job, program, found):
+    """The objects that wait at the end of a run that a search shows, and those that met an error, each with a sentence and its place in the program. Past a limit they are not told."""
+    try:
+        return sentences(job, program, found)
+    except Limit:
+        return []
+
+
+def sentences(job, program, found):
+    steps = [line.split(" ")[1:] for line in found.splitlines() if line.startswith("step ")]
+    job.write("record", record_of(found))
+    if re.search(r"(?m)^wrote stuck", found) and "\nwaits " not in found:
+        # (of an outcome that is not allowed a search does not say who waits)
+        found += job.explore("watch", "program", "record", most=16 << 20).out
+    lines = [line[6:] for line in found.splitlines() if line.startswith("waits ")]
+    classes = {it[2]: it[3] for it in steps if it[0] == "new"}
+    classes["0.0"] = (re.findall(r"\bclass\s+(\w+)", re.sub(r"#.*|\".*?\"", "", program)) or [""])[-1]
+    lines += [f"{it[1]} {classes.get(it[1], '')} faulted {it[2]}" for it in steps if it[0] == "fault"]
+    if not lines:
+        return []
+    told = job.run([job.jobs.programs["place"], "program", "record"], given="\n".join(lines).encode() + b"\n")
+    shown = []
+    for line in told.lines if told.status == 0 else lines:
+        placed = re.match(r"program:(\d+):(\d+): (.*)", line)
+        text = placed[3] if placed else line
+        if not placed and not re.match(r"\d+\.\d+ ", line):
+            continue                     # (the text of the program below an error)
+        words = text.split(" ")
+        if words[2:3] == ["calls"]:
+            text = f"{words[0]} {words[1]} waits for good: it calls {words[4]} of {words[3]} {classes.get(words[3], '')}".rstrip()
+        elif words[2:] == ["awaits"]:
+            text = f"{words[0]} {words[1]} waits at an answer or a select for a call or a message that does not come"
+        shown.append({"text": text, **({"line": int(placed[1]), "column": int(placed[2])} if placed else {})})
+    return shown + [{"text": line + (": it calls itself" if line.count(" ") == 1 else ": each calls the next, and the last calls the first")} for line in found.splitlines() if line.startswith("cycle ")]
+
+
 def run(job, program, nodes, seed):
     """A run that nobody steers."""
     job.write("program", program)

@@ -12,7 +12,7 @@ async function put(question, more, text, out) {
   stop?.abort();
   stop = new AbortController();
   $('ask-stop').disabled = false;
-  $('ask-counts').textContent = 'It searches.';
+  $('ask-counts').textContent = 'Searching.';
   const told = await ask('api/ask', { program: text, question: question.name, bound: Number($('ask-bound').value), ...more }, { signal: stop.signal, counts: it => { $('ask-counts').textContent = it; } });
   $('ask-stop').disabled = true;
   $('ask-counts').textContent = '';
@@ -29,7 +29,7 @@ function outcomes(told, text) {
       if (found?.run) step({ program: text, found: found.text, title: `a run with outcome ${which}` });
     });
     act.setAttribute('aria-label', `a run with outcome ${i + 1}`);
-    table.append(element('tr', '', element('td', 'dim', `${i + 1}`), element('td', '', element('code', '', items.join(' ') || '—')), element('td', kind === 'stuck' || kind === 'fault' ? 'bad' : '', KINDS[kind] || kind), element('td', '', act)));
+    table.append(element('tr', '', element('td', 'dim', `${i + 1}`), element('td', '', items.length ? element('code', '', items.join(' ')) : element('span', 'dim', 'nothing')), element('td', kind === 'stuck' || kind === 'fault' ? 'bad' : '', KINDS[kind] || kind), element('td', '', act)));
   });
   return table;
 }
@@ -44,7 +44,8 @@ export async function putQuestion() {
   const told = await put(question, question.fields.includes('outputs') ? { outputs: $('ask-lines').value } : {}, text, out);
   if (!told) return;
   out.replaceChildren(element('p', told.status === 1 ? 'says bad' : told.status === 0 ? 'says good' : 'says', told.says));
-  if (told.waits.length) out.append(waitsList(told.waits.map(it => ({ text: it }))));
+  if (told.wrote !== null) out.append(element('p', '', 'That run writes ', told.wrote ? element('code', '', told.wrote) : 'nothing', '.'));
+  if (told.waits.length) out.append(waitsList(told.waits));
   if (told.run) out.append(element('p', 'row', button('step through it', () => step({ program: text, found: told.text, title: question.label }, '#end'))));
   if (told.outcomes.length && question.name === 'outcomes') out.append(outcomes(told, text));
   out.append(details('what explore wrote', told.text));

@@ -27,7 +27,8 @@ CodeMirror.defineMode('pool', config => ({
     return 'error';
   },
   indent: (state, rest) => Math.max(0, state.depth - /^(end|fi|od|else|result|post|when)\b/.test(rest)) * config.indentUnit,
-  electricInput: /^\s*(end|fi|od|else|result|post|when)$/,
+  // (also with one letter more, so that a name as `first` is moved back)
+  electricInput: /^\s*(end|fi|od|else|result|post|when)\w?$/,
   lineComment: '#',
 }));
 
@@ -60,6 +61,14 @@ export function goTo(line, column) {
 
 let wrong = [], waiting = 0, asked = null;
 
+// The sentence of an error. The tokens that are expected stand in boxes, since some are a colon or a semicolon.
+function sentence(text) {
+  const at = text.indexOf('; expected: ');
+  if (at < 0) return [text];
+  const words = text.slice(at + 12).split(/(, | or )/);
+  return [text.slice(0, at + 12), ...words.map((it, i) => i % 2 || /^an? |^the /.test(it) ? it : element('code', 'token', it))];
+}
+
 export function showError(error, says = '') {
   for (const it of wrong) it.clear();
   wrong = [];
@@ -70,7 +79,7 @@ export function showError(error, says = '') {
     return;
   }
   const from = error.line ? placeOf(error.line, error.column) : null;
-  line.textContent = from ? `Line ${error.line}, column ${error.column}: ${error.sentence}` : error.sentence;
+  line.replaceChildren(from ? `Line ${error.line}, column ${error.column}: ` : '', ...sentence(error.sentence));
   if (!from) return;
   const last = editor.lineCount() - 1, at = Math.min(from.line, last);
   let to = { line: from.line, ch: from.ch + (error.token && error.length ? error.token.length : 1) };
@@ -79,13 +88,14 @@ export function showError(error, says = '') {
     to = { line: at, ch: editor.getLine(at).length };
   }
   wrong.push(editor.markText({ line: at, ch: from.ch }, to, { className: 'wrong', attributes: { title: error.sentence } }));
-  const widget = editor.addLineWidget(at, element('div', 'wrong-line', `▲ ${error.sentence}`), { coverGutter: false, noHScroll: true });
+  const widget = editor.addLineWidget(at, element('div', 'wrong-line', '▲ ', ...sentence(error.sentence)), { coverGutter: false, noHScroll: true });
   wrong.push({ clear: () => widget.clear() });
 }
 
 async function check() {
   asked?.abort();
   asked = new AbortController();
+  if (!editor.getValue().trim()) return showError(null);
   const mine = asked, told = await ask('api/check', { program: program() }, { signal: mine.signal });
   if (mine.signal.aborted) return;
   const says = trouble(told);

@@ -1,7 +1,7 @@
 // The pane Exercises. The browser has the texts; what an answer is compared with stays on the server.
 import { $, ask, button, element, kept, trouble } from './tools.js';
 import { editor, openText, opened, program, setText, showError } from './editor.js';
-import { showPage } from './run.js';
+import { showPage, waitsList } from './run.js';
 
 let all = [], now = null, stop = null, tries = false;
 
@@ -40,6 +40,8 @@ function list() {
   }));
 }
 
+const narrow = () => matchMedia('(max-width: 800px)').matches;
+
 function choose(it) {
   now = it;
   openText('exercise.' + it.name, it.start);
@@ -48,7 +50,10 @@ function choose(it) {
   $('exercise').hidden = false;
   $('exercise-text').replaceChildren(...marked(it.text));
   $('exercise-out').replaceChildren();
+  checked = '';
+  stale();
   list();
+  if (narrow()) $('exercise').scrollIntoView();
 }
 
 export function leave() {
@@ -60,25 +65,31 @@ export function leave() {
   list();
 }
 
+let checked = '';
+export const stale = () => { $('exercise-stale').hidden = checked === '' || checked === program() || !now; };
+
 export async function check() {
   if (!now) return;
+  checked = program();
+  stale();
   const mine = now, out = $('exercise-out');
   stop?.abort();
   stop = new AbortController();
   $('exercise-stop').disabled = false;
   out.replaceChildren();
-  $('exercise-counts').textContent = 'All runs of your program are tried.';
+  $('exercise-counts').textContent = 'Trying all runs of your program.';
   if (tries) kept.set('who', $('exercise-who').value);
-  const told = await ask('api/exercise', { program: program(), exercise: mine.name, who: tries ? $('exercise-who').value : '' }, { signal: stop.signal, counts: it => { $('exercise-counts').textContent = it; } });
+  const told = await ask('api/exercise', { program: checked, exercise: mine.name, who: tries ? $('exercise-who').value : '' }, { signal: stop.signal, counts: it => { $('exercise-counts').textContent = it; } });
   $('exercise-stop').disabled = true;
   $('exercise-counts').textContent = '';
   if (now !== mine) return;
   const says = told.says || (told.error ? 'The program has an error: ' : '') + trouble(told);
   out.append(element('p', told.passed ? 'good' : 'bad', says));
   if (told.error) showError(told.error);
+  if (told.waits?.length) out.append(waitsList(told.waits));
   if (told.html) {
     out.append(element('p', 'row', button('step through this run', () => showPage(told.html, `${mine.title}: a run that is not allowed`, ''))));
-    if (told.others) out.append(element('p', 'dim', 'Of the program that tries your classes, the run shows each step, and nothing that it would do later.'));
+    if (told.others) out.append(element('p', 'dim', 'In this run the check’s own objects use your classes. It shows each of their steps, and not what they would do next.'));
   }
   if (told.passed) {
     kept.set('passed.' + mine.name, 'yes');

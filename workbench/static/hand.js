@@ -1,7 +1,7 @@
 // The pane By hand: a person chooses each event. What is shown of it was written by `pool record` and `explore watch`.
 import { $, ask, button, copy, element } from './tools.js';
 import { program } from './editor.js';
-import { refuse, step, waitsList, written } from './run.js';
+import { atTheEnd, refuse, step, written } from './run.js';
 
 let text = '', placement = null, schedule = null, last = null;
 
@@ -94,7 +94,7 @@ async function look(next, on = false) {
   showEvents(told.could);
   $('hand-undo').disabled = !events();
   $('hand-on').disabled = told.could.length !== 1;
-  $('hand-waits').replaceChildren(...told.waits.length ? [element('p', 'bad', 'At the end:'), waitsList(told.waits)] : []);
+  $('hand-waits').replaceChildren(...told.waits.length ? atTheEnd(told.waits, true) : []);
   $('hand-writes').textContent = written(told.writes);
   showState(told.state);
   $('hand-schedule').value = schedule;

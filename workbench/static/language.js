@@ -4,10 +4,11 @@ import { marked, leave } from './exercises.js';
 import { editor, setText } from './editor.js';
 
 const PARTS = [
-  ['A program', `A program is a list of **classes**. A run begins with one object of the **last** class. Each object runs its own \`body\`, beside all others.
+  ['A program', `A program is a list of **classes**. A run begins with one object of the **last** class. Each object runs its own \`body\`, at the same time as all others.
 
+- A class has its variables first, then its methods, and then its body.
 - \`;\` stands **between** two statements, and not behind the last one.
-- \`:=\` assigns, and \`==\` compares.
+- \`:=\` assigns, and \`==\` compares. An \`if\` ends with \`fi\`, and its \`else\` may be left out.
 - \`#\` begins a comment. Line ends have no meaning.`,
   `class Main
 var sum, i : Int
@@ -24,7 +25,7 @@ end
 
 - Numbers: \`+ - * / %\`; comparisons: \`== != < <= > >=\`; truth values: \`and or not\`, \`true\`, \`false\`.
 - \`not\` binds most strongly: write \`not (a == b)\`.`],
-  ['Methods', `A method has parameters, variables of its own (\`local\`) and statements. A method with a result ends with \`result\` and an expression. \`gcd(12, 18)\` calls a method of the own object.`,
+  ['Methods', `A method has parameters, each with a type of its own, variables of its own (\`local\`) and statements. A method with a result ends with \`result\` and an expression. \`gcd(12, 18)\` calls a method of the own object.`,
   `class Main
 method gcd(a : Int, b : Int) : Int
 local r : Int
@@ -124,7 +125,7 @@ body
   write b ! get(); write b ! get()
 end
 `],
-  ['Deadlock', `In a **deadlock** objects wait in calls for good: each for another one. Run this program: it says who waits for whom, and where. “Step through it” shows how it came to that. “Ask” says whether any order of events leads to a deadlock.`,
+  ['Deadlock', `In a **deadlock** objects wait in calls **for good**: each for another one, and none can ever go on. Run this program: it says who waits for whom, and where. “Step through it” shows how it came to that. “Ask” says whether any order of events leads to a deadlock.`,
   `# Each asks the other at the same time, and nobody answers.
 class Peer
 var other : Peer
@@ -151,6 +152,18 @@ end
 `],
 ];
 
+const WORDS = [
+  ['node', 'one of the machines that run the program together; each object is on one of them'],
+  ['placement', 'says how many nodes there are, and which objects are on which'],
+  ['event', 'a turn of a node, in which one of its objects goes on; or a message that goes over a link'],
+  ['schedule', 'the order of the events: fair, random, or chosen by hand'],
+  ['record', 'the list of the events of a run, and of their effects'],
+  ['silent step', 'a step of one object that no other object can notice, such as an assignment; also called local'],
+  ['quiet', 'nothing can change any more: the run is at its end'],
+  ['waits for good', 'the object is in a call, and can never go on'],
+  ['configuration', 'what all objects and mailboxes are at one moment; a search keeps each one once'],
+];
+
 const EVENTS = [
   ['local O K', 'object O makes K silent steps'], ['new O P C', 'O makes the object P of class C'], ['send O P m', 'O sends the message m to P'], ['take P O m', 'P begins to execute the message of O'],
   ['post call O P m', 'the call of O is on its way, or in the mailbox of P'], ['answer P O m', 'P begins to execute the call of O'], ['return P O v', 'P returns the value v to O'],
@@ -169,6 +182,10 @@ export function begin() {
     act.setAttribute('aria-label', `put the program of “${title}” into the editor`);
     pane.append(pre, element('p', 'try row', act, element('span', 'dim', 'Control and Z brings your program back.')));
   }
+  pane.append(element('h2', '', 'Words of this page'));
+  const words = element('table');
+  for (const [word, meaning] of WORDS) words.append(element('tr', '', element('td', '', element('b', '', word)), element('td', '', meaning)));
+  pane.append(words);
   pane.append(element('h2', '', 'Events'), element('p', '', 'An object is named by its node and its number there: 0.1 is object 1 of node 0. The lines of a record have these words.'));
   const table = element('table');
   for (const [word, meaning] of EVENTS) table.append(element('tr', '', element('td', '', element('code', '', word)), element('td', '', meaning)));

@@ -80,7 +80,7 @@ async function start() {
   onChange(() => {
     $('linked').textContent = '';
     $('link-label').hidden = true;
-    for (const it of [run, hand, questions]) it.stale();
+    for (const it of [run, hand, questions, exercises]) it.stale();
     clearTimeout(waiting);
     waiting = setTimeout(address, 600);
   });

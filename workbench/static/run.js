@@ -13,6 +13,13 @@ export function waitsList(waits, lines = Infinity) {
   return list;
 }
 
+// What is left at the end of a run: a heading, which tells of a deadlock if there is one, and the objects.
+export function atTheEnd(waits, bad) {
+  const dead = waits.find(it => it.text.startsWith('deadlock: '));
+  const says = dead ? `D${dead.text.slice(1)}.` : bad ? 'At the end:' : 'Note:';
+  return [element('p', 'bad', says), waitsList(waits.filter(it => it !== dead))];
+}
+
 export const details = (summary, text) => {
   const pre = element('pre', '', text);
   pre.tabIndex = 0;
@@ -45,9 +52,11 @@ export async function run() {
   const writes = element('pre', '', written(told.writes));
   writes.tabIndex = 0;
   out.replaceChildren(element('h3', '', 'written'), writes, element('p', 'says', told.says));
-  if (bad) out.append(element('p', 'bad', told.status === 1 || told.waits.some(it => it.text.startsWith('deadlock')) || told.waits.some(it => /waits for good/.test(it.text)) ? 'At the end:' : 'Note:'), waitsList(told.waits));
+  if (bad) out.append(...atTheEnd(told.waits, told.status === 1 || told.waits.some(it => /waits for good/.test(it.text))));
   out.append(element('p', 'row', button('step through it', () => step({ program: text, placement: told.placement, schedule: told.schedule, title: 'a run' })),
-    button('with each local step', () => step({ program: text, placement: told.placement, schedule: told.schedule, title: 'a run', each: true }))));
+    button('step through it, with each local step', () => step({ program: text, placement: told.placement, schedule: told.schedule, title: 'a run', each: true })),
+    button('ask about all runs', () => show('ask', true))));
+  if (!bad) out.append(element('p', 'dim', 'This is one run of many. With another order of events it may end otherwise, also in a deadlock: “ask about all runs” finds out.'));
   out.append(details('the record', told.record), details('the objects at the end', told.report), details('the placement', told.placement), details('the schedule', told.schedule));
 }
 
@@ -73,6 +82,7 @@ export function showPage(html, named, at = '') {
   addEventListener('message', hand);
   old.replaceWith(frame);
   show('step');
+  if (matchMedia('(max-width: 800px)').matches) $('step-head').scrollIntoView();
 }
 
 export async function step(run, at = '') {

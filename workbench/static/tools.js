@@ -23,7 +23,22 @@ export const kept = {
 
 // Asks the server. The answer has one of: what was asked for; `refused`, `limit`, `trouble`: a sentence; `error`: a fault of the program.
 // Where the answer comes in lines, each line of counts is handed to `counts`. Where the server is busy, it is asked again.
-export async function ask(path, body, { counts, signal } = {}) {
+export async function ask(path, body, more) {
+  busy(path, 1);
+  try { return await request(path, body, more); } finally { busy(path, -1); }
+}
+
+// Says that the server works, if its answer takes a while. It is not said of the check after each pause in typing.
+let asked = 0, soon = 0;
+function busy(path, by) {
+  if (path === 'api/check' || path === 'api/setting') return;
+  asked += by;
+  clearTimeout(soon);
+  if (!asked) $('busy').hidden = true;
+  else soon = setTimeout(() => { $('busy').hidden = !asked; }, 400);
+}
+
+async function request(path, body, { counts, signal } = {}) {
   for (let times = 0; ; times++) {
     let told;
     try {
