@@ -5,11 +5,13 @@
 
 %% The files of a run, and its ends. The record is written to `record`. With a folder `logs`, host K writes a log `log.K` there, and the engine
 %% a file `end`. The run is over after `lines` lines or `time` milliseconds. For trials, the last host is killed after `kill` milliseconds.
+%% With a number `seed`, free choices are drawn; without it, the first open alternative and the earliest request are taken.
 -type options() :: #{unit := file:name_all(), placement := none | file:name_all(), record := file:name_all(), logs := none | file:name_all(),
-                     lines := pos_integer() | infinity, time := non_neg_integer() | infinity, kill := none | non_neg_integer()}.
+                     lines := pos_integer() | infinity, time := non_neg_integer() | infinity, kill := none | non_neg_integer(),
+                     seed := none | pos_integer()}.
 
-%% For the scripts: runs the jobs of a file, one after the other, on a number of hosts. A job is a line of seven words between tabs: unit,
-%% placement, record, logs, lines, time, kill; `-` stands for none. For each job it writes the six parts of an outcome between tabs.
+%% For the scripts: runs the jobs of a file, one after the other, on a number of hosts. A job is a line of seven or eight words between tabs: unit,
+%% placement, record, logs, lines, time, kill, seed; `-` stands for none. For each job it writes the six parts of an outcome between tabs.
 -spec main([string()]) -> no_return().
 main([Count, File]) ->
     {ok, Bytes} = file:read_file(File),
@@ -17,9 +19,10 @@ main([Count, File]) ->
     halt(0).
 
 jobs([], _) -> ok;
-jobs([[Unit, Placement, Record, Logs, Lines, Time, Kill] | Jobs], Hosts) ->
+jobs([[Unit, Placement, Record, Logs, Lines, Time, Kill | Seed] | Jobs], Hosts) ->
     Options = #{unit => Unit, placement => word(Placement), record => Record, logs => word(Logs),
-                lines => number(Lines, infinity), time => number(Time, infinity), kill => number(Kill, none)},
+                lines => number(Lines, infinity), time => number(Time, infinity), kill => number(Kill, none),
+                seed => case Seed of [] -> none; [Word] -> number(Word, none) end},
     %% (in a process of its own, so that no message of an earlier run reaches it)
     {End, Made, Left, Clock, Used, Why} = erpc:receive_response(erpc:send_request(node(), ?MODULE, run, [Hosts, Options])),
     io:format("~s\t~w\t~w\t~w\t~w\t~s~n", [End, Made, Left, Clock, Used, Why]),
@@ -47,11 +50,11 @@ host() ->
 
 %% Runs a program.
 -spec run([node()], options()) -> outcome().
-run(Hosts, #{unit := UnitFile, placement := PlacementFile, record := Record, logs := Logs, lines := Most, time := Time, kill := Kill}) ->
+run(Hosts, #{unit := UnitFile, placement := PlacementFile, record := Record, logs := Logs, lines := Most, time := Time, kill := Kill, seed := Seed}) ->
     Unit = pool_unit:read(UnitFile),
     Placement = case PlacementFile of none -> everywhere(length(Hosts), Unit); _ -> pool_unit:placement(PlacementFile) end,
     Merge = pool_merge:start(Record, Most, self()),
-    Options = #{unit => Unit, placement => Placement, engine => self(), merge => Merge},
+    Options = #{unit => Unit, placement => Placement, engine => self(), merge => Merge, seed => Seed},
     Keepers = [keeper(Host, Options#{log => log(Logs, ["log.", integer_to_list(I)])}) || {I, Host} <- lists:zip(lists:seq(0, length(Hosts) - 1), Hosts)],
     pool_merge:keepers(Merge, Keepers),
     [ok = pool_node:keepers(Keeper, Keepers) || Keeper <- Keepers],

@@ -20,7 +20,7 @@
                finishing = false}).
 
 %% Starts the keeper of this host for one run.
--spec start(#{unit := pool_unit:unit(), placement := pool_unit:placement(), engine := pid(), merge := pid(), log := none | file:name_all()}) -> {ok, pid()}.
+-spec start(#{unit := pool_unit:unit(), placement := pool_unit:placement(), engine := pid(), merge := pid(), seed := none | pos_integer(), log := none | file:name_all()}) -> {ok, pid()}.
 start(Options) -> gen_server:start(?MODULE, Options, []).
 
 %% Tells a keeper the keepers of all hosts.
@@ -51,9 +51,9 @@ sample() ->
 -spec finish(pid()) -> ok.
 finish(Keeper) -> gen_server:cast(Keeper, finish).
 
-init(#{unit := {_, Classes} = Unit, placement := Placement, engine := Engine, merge := Merge, log := Log}) ->
+init(#{unit := {_, Classes} = Unit, placement := Placement, engine := Engine, merge := Merge, seed := Seed, log := Log}) ->
     Counters = atomics:new(?STOP, [{signed, true}]),
-    persistent_term:put(?RUN, #run{classes = Classes, counters = Counters, keeper = self()}),
+    persistent_term:put(?RUN, #run{classes = Classes, counters = Counters, keeper = self(), seed = Seed}),
     Device = case Log of none -> none; _ -> {ok, File} = file:open(Log, [raw, write]), File end,
     {ok, #node{counters = Counters, unit = Unit, placement = Placement, engine = Engine, merge = Merge, log = Device}}.
 

@@ -29,15 +29,16 @@
                  number = 0, given = 0,            % the number of its lines, and of those that it has given away
                  items = [] :: [item()],           % the others, the latest first
                  causes = [] :: [cause()],         % the causes of its next line
+                 random = none :: none | rand:state(),  % what its free choices are drawn from
                  sent = 0, received = 0}).         % messages that it has not yet added to the counters
 
 %% The process of an object: of the root, or of an object that a maker creates, with the causes of its `new`. It ends after the run.
 -spec init(binary(), binary(), root | {by, name(), [cause()]}) -> no_return().
 init(Class, Text, By) ->
-    #run{classes = #{Class := {class, Variables, Methods, Code}}, counters = Counters, keeper = Keeper} = persistent_term:get(?RUN),
+    #run{classes = #{Class := {class, Variables, Methods, Code}}, counters = Counters, keeper = Keeper, seed = Seed} = persistent_term:get(?RUN),
     Node = node_of(Text),
     Name = {object, self(), Text},
-    O = #object{name = Name, text = Text, node = Node, methods = Methods, counters = Counters, keeper = Keeper},
+    O = #object{name = Name, text = Text, node = Node, methods = Methods, counters = Counters, keeper = Keeper, random = random(Seed, Text)},
     go(1, [], Code, {}, body, erlang:make_tuple(Variables, nil), 0, created(By, Class, O)).
 
 %% The line of a creation is the first line of the new object.
@@ -137,6 +138,7 @@ fault(E, O) -> over(say(<<"fault ">>, <<$\s, (atom_to_binary(E))/binary>>, O)).
 over(O) -> {_, O1} = next(O), over(O1#object{inbox = [], late = []}).
 
 %% ---- Answers. The first alternative is taken that is possible: a plain one, or one for which a request has come.
+serve(Open, Ops, Code, Locals, Frame, Vars, #object{random = Random} = O) when Random =/= none -> serve_any(Open, Ops, Code, Locals, Frame, Vars, arrived(O));
 serve(Open, Ops, Code, Locals, Frame, Vars, #object{inbox = Inbox, late = Late} = O) ->
     case possible(Open, Inbox) of
         {pick, I, A} -> go(A, Ops, Code, Locals, Frame, Vars, 0, say(<<"pick ">>, <<$\s, (integer_to_binary(I))/binary>>, O));
@@ -170,6 +172,55 @@ first(Names, [Request | Inbox], Before) ->
         true -> {Request, lists:reverse(Before, Inbox)};
         false -> first(Names, Inbox, [Request | Before])
     end.
+
+%% With a seed, an alternative is drawn of those that are possible, and then a sender of those whose request it accepts.
+serve_any(Open, Ops, Code, Locals, Frame, Vars, #object{inbox = Inbox, random = Random} = O) ->
+    case choices(Open, Inbox, []) of
+        [] ->
+            {Request, O1} = next(O),
+            serve_any(Open, Ops, Code, Locals, Frame, Vars, arrived(keep(Request, O1)));
+        All ->
+            {Choices, Random1} = one_of(All, Random),
+            {Choice, Random2} = one_of(Choices, Random1),
+            O1 = O#object{random = Random2},
+            case Choice of
+                {pick, I, A} -> go(A, Ops, Code, Locals, Frame, Vars, 0, say(<<"pick ">>, <<$\s, (integer_to_binary(I))/binary>>, O1));
+                {take, Request, A} -> enter(Request, {A, Ops, Code, Locals, Frame}, Vars, O1#object{inbox = lists:delete(Request, Inbox)})
+            end
+    end.
+
+%% All requests that have come, the earliest first.
+arrived(#object{inbox = Inbox, late = Late, received = Received} = O) ->
+    receive
+        stop -> stop(O);
+        Request -> arrived(keep(Request, O#object{received = Received + 1}))
+    after 0 -> O#object{late = [], inbox = Inbox ++ lists:reverse(Late)}
+    end.
+
+%% What each open alternative that is possible can do. Of each sender it accepts the earliest request on its methods, unless an earlier alternative, whose
+%% methods are those of Before, names this method, too.
+choices([], _, _) -> [];
+choices([{I, plain, A} | Open], Inbox, Before) -> [[{pick, I, A}] | choices(Open, Inbox, Before)];
+choices([{_, Names, A} | Open], Inbox, Before) ->
+    Taken = [{take, Request, A} || {_, _, M, _} = Request <- earliest(Names, Inbox, #{}), not lists:member(M, Before)],
+    case Taken of [] -> []; _ -> [Taken] end ++ choices(Open, Inbox, Names ++ Before).
+
+%% The earliest request of each sender on one of the methods.
+earliest(_, [], _) -> [];
+earliest(Names, [{_, {From, _}, M, _} = Request | Inbox], Seen) ->
+    case lists:member(M, Names) andalso not is_map_key(From, Seen) of
+        true -> [Request | earliest(Names, Inbox, Seen#{From => true})];
+        false -> earliest(Names, Inbox, Seen)
+    end.
+
+%% The draws of an object come from the seed and the object's name.
+random(none, _) -> none;
+random(Seed, Text) -> rand:seed_s(exsss, {Seed, erlang:phash2(Text), 1}).
+
+one_of([It], Random) -> {It, Random};
+one_of(All, Random) ->
+    {Place, Random1} = rand:uniform_s(length(All), Random),
+    {lists:nth(Place, All), Random1}.
 
 enter({Serves, {From, _} = Cause, M, Args}, Below, Vars, #object{causes = Causes} = O) ->
     {method, _, _, Code} = Method = method(M, O),
