@@ -15,13 +15,17 @@ Run = collections.namedtuple('Run', 'status clock used memory')
 
 
 def program_of(words, name='pool'):
-    """The path of the program that the words name, or of the one of this name that its script builds on first use."""
+    """The path of the program that the words name, or of the one of this name that its script has built. Where it has not, the script ends, and says
+    what to type."""
     if len(words) > 1:
         path = os.path.realpath(words[1])
         if not os.path.isfile(path) or not os.access(path, os.X_OK):
             sys.exit(f'{words[0]}: there is no program {words[1]}')
         return path
     script = os.path.join(HERE, '..', name)
+    asks = 'top=$1; name=$2; set --; . "$top/tools/script.sh"; stop_unbuilt "$name" ", or name built programs as its words."'
+    if subprocess.run(['sh', '-c', asks, os.path.realpath(words[0]), os.path.dirname(HERE), name]).returncode:
+        sys.exit(2)
     if subprocess.run([script], stdin=subprocess.DEVNULL, stdout=subprocess.DEVNULL, stderr=subprocess.DEVNULL).returncode != 64:
         sys.exit(f'{words[0]}: ./{name} does not run')
     return os.path.join(HERE, '..', '.pool', name)
