@@ -50,26 +50,33 @@ beside_pool() {
     [ ! -x "$beside" ] || echo "$beside"
 }
 
+# `stop_unbuilt NAME AFTER` ends the script with the status 70 if the script NAME at the top would first prove and build its program. What it says first
+# is what that takes and what to type instead; AFTER stands behind "and then the same again".
+stop_unbuilt() {
+    IFS= read -r line <"$top/$1" 2>/dev/null || line=
+    if [ "$line" = '#!/bin/sh' ] && [ -f "$top/tools/programs.sh" ] && (. "$top/tools/programs.sh" && changed "$1"); then
+        here=$(cd "$(dirname "$0")" && pwd)/${0##*/}
+        {
+            echo "${here#"$top"/}: $1 is not built from these sources, and to prove and build it takes up to half an hour on four processors, once. Type"
+            echo "    $top/pool; $top/explore"
+            echo "and then the same again$2"
+        } >&2
+        exit 70
+    fi
+}
+
 # `find_program NAME WORD..` sets the variable `program_NAME` to the path of `pool` or `explore`: to what POOL or EXPLORE names, or to the
-# `explore` beside the `pool` that POOL names, or to the script at the top. That script proves and builds both programs first if they are not built from
-# these sources. It is not begun then: the words of the call say what to type instead, and the status is 70.
+# `explore` beside the `pool` that POOL names, or to the script at the top. Where that script would first prove and build its program, `stop_unbuilt` ends this one;
+# it also says with which POOL these words run on a program without proofs.
 find_program() {
-    name=$1
+    wanted=$1
     shift
     found=$POOL
-    [ "$name" = pool ] || found=${EXPLORE:-$(beside_pool)}
+    [ "$wanted" = pool ] || found=${EXPLORE:-$(beside_pool)}
     if [ -z "$found" ]; then
-        found=$top/$name
-        IFS= read -r line <"$found" 2>/dev/null || line=
-        if [ "$line" = '#!/bin/sh' ] && [ -d "$top/crates" ] && (. "$top/tools/programs.sh" && changed "$name"); then
-            {
-                echo "tools/${0##*/}: $name is not built from these sources, and to prove and build it takes up to half an hour on four processors, once. Type"
-                echo "    $top/pool; $top/explore"
-                echo "and then the same again. For a first look it is compiled without proofs, once, in one to two minutes. Type"
-                echo "    POOL=$top/tools/unproved $0 $*"
-            } >&2
-            exit 70
-        fi
+        found=$top/$wanted
+        stop_unbuilt "$wanted" ". For a first look it is compiled without proofs, once, in one to two minutes. Type
+    POOL=$top/tools/unproved $0 $*"
     fi
-    if [ "$name" = pool ]; then program_pool=$found; else program_explore=$found; fi
+    if [ "$wanted" = pool ]; then program_pool=$found; else program_explore=$found; fi
 }

@@ -1,5 +1,6 @@
 # shellcheck shell=sh disable=SC2154
-# What the scripts share that count passed and failed cases. A script sets `top` to the top of the repository and reads this file.
+# What the scripts share that count passed and failed cases. A script sets `top` to the top of the repository and reads this file, and with it tools/script.sh.
+. "$top/tools/script.sh"
 passed=0 failed=0
 
 # Makes the folder `made`, which goes when the script ends.
@@ -12,12 +13,13 @@ make_folder() {
 }
 
 # `program_of WORD NAME` prints the path of a program: of the one that the word names, or of the script NAME at the top.
-# That script builds its program first, where it must; without words it ends with the status 64.
+# A program that is not built is not built here either: it says what to type. Without words that script ends with the status 64.
 program_of() {
     case $1 in
     /*) echo "$1" ;;
     ?*) echo "$PWD/$1" ;;
     *)
+        stop_unbuilt "$2" ', or name built programs as its words.'
         "$top/$2" >&2
         [ $? -eq 64 ] && echo "$top/$2"
         ;;

@@ -29,9 +29,11 @@ def ended():
 
 
 def program(given, name):
-    """The path of a program: of the one that is given, or of `pool` or `explore` of the repository, which is built on first use. Ends the script
-    where it does not run."""
+    """The path of a program: of the one that is given, or of `pool` or `explore` of the repository. Ends the script where it does not run, and
+    where it is not built: it says what to type."""
     path, script = os.path.abspath(given or f"{TOP}/{name}"), os.path.relpath(os.path.realpath(sys.argv[0]), TOP)
+    if not given and subprocess.run(["sh", "-c", 'top=$1; name=$2; set --; . "$top/tools/script.sh"; stop_unbuilt "$name" ", or name built programs as its words."', os.path.realpath(sys.argv[0]), TOP, name]).returncode:
+        sys.exit(2)
     try:
         status = subprocess.run([path], stdin=subprocess.DEVNULL, capture_output=bool(given)).returncode
     except OSError:
