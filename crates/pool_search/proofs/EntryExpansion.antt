@@ -5,7 +5,8 @@ use Rattle.std.specs.List.{filter, slice_get}
 use Rattle.std.proofs.lemmas.Option.{slice_get_within}
 use Rattle.run_types.specs.declared.types.Item.{Item}
 use Rattle.run_types.specs.declared.types.Label.{Label}
-use Rattle.run_types.proofs.Laws.{same_some}
+use Rattle.run_types.specs.declared.types.Label.TheVariants as L
+use Rattle.run_types.proofs.Laws.{equal, same_some}
 use Rattle.pool_syntax.specs.Terms.{ProgramTree}
 use Rattle.pool_relation.specs.Configuration.{Configuration}
 use Rattle.pool_relation.specs.Transition.{transition, start}
@@ -13,10 +14,10 @@ use Rattle.reachability.specs.Search.{IsInOrder, after}
 use Rattle.reachability.specs.Labels.{labels_to_try}
 use Rattle.search_laws.specs.Outcomes.{Passed}
 use Rattle.search_laws.specs.Stubborn.{IsAwaited, is_served}
-use Rattle.search_laws.specs.Tried.{Course, KeepsNothing, AllLeadInto, Follows, IsExpanded, IsLabelTried, LeadsAt, LeadsInto, Every, Those}
+use Rattle.search_laws.specs.Tried.{Course, KeepsNothing, AllLeadInto, Follows, IsExpanded, IsLabelTried, LeadsAt, LeadsInto, Every, Those, ByBirth}
 use Rattle.visited_set.specs.VisitedConfigurations.{entry}
 use Rattle.pool_search.specs.Progress.{Entries, AllReached, Grows, HasSearched, IsReachedWith, IsSearchedTo}
-use Rattle.pool_search.specs.Trials.{CanMove, is_asked, OneLeadsOn, SettlesAt}
+use Rattle.pool_search.specs.Trials.{CanMove, is_asked, is_birth, OneLeadsOn, SettlesAt}
 use Rattle.visited_set.specs.LedBy.{IsLedBy}
 use Rattle.pool_search.proofs.ListGrowth.{each_at, entry_grown, in_at, labels_grown, led_grown}
 use Rattle.visited_set.proofs.Laws.{each_more}
@@ -144,6 +145,16 @@ module _ (p : ProgramTree) (k : Course) where
       let h = enough on.label on.leads.next on.asked on.leads.step in
       let awaited : IsAwaited p e.next b e.configuration = record h { one = on.label; to = on.leads.next; is_its = on.asked; possible = on.leads.step } in
       Those b awaited some place on.later on.leads
+
+  -- a creation was tried
+  pub by_birth : (es : Entries) (at : ℕ) (e : Passed) (l : Label) (place : ℕ) → is_birth e.next l ≡ true → LeadsAt p k es e.next e.items e.configuration l place
+      → IsExpanded p k es at e.next e.items e.configuration × CanMove p e.configuration
+  by_birth es at e (L.New o m class) place births led =
+      let leads = leads_by es e.next e.items e.configuration (L.New o m class) place led in (
+        ByBirth o class (subst (λ (n : ℕ). LeadsInto p k es e.next e.items e.configuration (L.New o n class)) (equal m e.next births) leads),
+        record { label = L.New o m class; next = led.next; step = led.step },
+      )
+  by_birth es at e _ place births led = absurd (cc)
 
   -- the start was kept
   pub begun_at : (most : ℕ) (es : Entries) (first : Configuration) (place : ℕ) → start p 0 ≡ Some first → SettlesAt p k es 1 [] first place → Grows p k most [] es

@@ -4,6 +4,7 @@ use Rattle.std.specs.List.{filter, slice_get}
 use Rattle.std.proofs.lemmas.List.{append-nil}
 use Rattle.run_types.specs.declared.types.Item.{Item}
 use Rattle.run_types.specs.declared.types.Label.{Label}
+use Rattle.run_types.specs.declared.types.Label.TheVariants as L
 use Rattle.pool_syntax.specs.Terms.{ProgramTree}
 use Rattle.run_types.specs.Tables.{Each}
 use Rattle.pool_relation.specs.Configuration.{Configuration}
@@ -11,7 +12,7 @@ use Rattle.reachability.specs.Search.{IsInOrder}
 use Rattle.reachability.specs.Labels.{labels_to_try}
 use Rattle.search_laws.specs.Outcomes.{Passed, IsPassed}
 use Rattle.search_laws.specs.Stubborn.{is_served}
-use Rattle.search_laws.specs.Tried.{Course, LeadsInto, IsLabelTried, AllLeadInto, LeadsAt, IsExpanded, Every, Those, AreTried}
+use Rattle.search_laws.specs.Tried.{Course, LeadsInto, IsLabelTried, AllLeadInto, LeadsAt, IsExpanded, Every, Those, ByBirth, AreTried}
 use Rattle.pool_search.specs.Progress.{Entries, Grows}
 
 pub in_grown : (n : ℕ) (w : List Item) (c : Configuration) (es fs : Entries) → IsPassed n w c es → IsPassed n w c (es ++ fs)
@@ -67,6 +68,7 @@ module _ (p : ProgramTree) (k : Course) where
 
   pub expanded_grown : (es fs : Entries) (i n : ℕ) (w : List Item) (c : Configuration) → IsExpanded p k es i n w c → IsExpanded p k (es ++ fs) i n w c
   expanded_grown es fs i n w c (Every all) = Every (labels_grown es fs n w c (labels_to_try p n c) all)
+  expanded_grown es fs i n w c (ByBirth o class leads) = ByBirth o class (leads_grown es fs n w c (L.New o n class) leads)
   expanded_grown es fs i n w c (Those b awaited some place later led) =
       Those b awaited (labels_grown es fs n w c (filter (is_served b) (labels_to_try p n c)) some) place later (led_grown es fs n w c awaited.one place led)
 

@@ -6,6 +6,7 @@ use Rattle.std.proofs.lemmas.List.{drop_more}
 use Rattle.std.proofs.lemmas.Option.{slice_get_within}
 use Rattle.run_types.specs.declared.types.Item.{Item}
 use Rattle.run_types.specs.declared.types.Label.{Label}
+use Rattle.run_types.specs.declared.types.Label.TheVariants as L
 use Rattle.run_types.specs.Tables.{Each}
 use Rattle.run_types.proofs.Laws.{equals, equal, first, second, neither, given_by, same_some}
 use Rattle.pool_syntax.specs.Terms.{ProgramTree}
@@ -20,17 +21,17 @@ use Rattle.search_laws.specs.Tried.{states_only, state_of}
 use Rattle.search_laws.specs.Dead.{changes, some_changes, IsDead, CanGoOn}
 use Rattle.search_laws.specs.ClosedBeside.{beside, SettlesBeside, AtRest, GoesFreely, IsReachedInOrder}
 use Rattle.search_laws.specs.PutOff.{IsClosedByChoices}
-use Rattle.search_laws.specs.TriedAt.{IsTriedAt, AllThere, SomeThere}
+use Rattle.search_laws.specs.TriedAt.{IsTriedAt, AllThere, SomeThere, CreatedThere}
 use Rattle.search_laws.specs.Stubborn.{IsAwaited, is_served}
-use Rattle.search_laws.proofs.Laws.{all_labels, among_those, dead_by_choices, in_the_end_by_places, known_reached, served_keeps_names, unchanged_by, who_is_awaited_is_enough}
+use Rattle.search_laws.proofs.Laws.{all_labels, among_those, top, below_top, dead_by_choices, in_the_end_by_places, known_reached, served_keeps_names, unchanged_by, who_is_awaited_is_enough}
 use Rattle.visited_set.specs.Courses.{all_followed}
 use Rattle.pool_search.specs.Progress.{Entries, AllInOrder}
 use Rattle.visited_set.specs.VisitedConfigurations.{entry}
 use Rattle.pool_search.specs.Entries.{IsEntryAt}
 use Rattle.visited_set.specs.WaiterLists.{HasWaiter, IsOne, IsOpen, noted, GoesOnBy}
 use Rattle.pool_search.specs.KnownWaiters.{IsServed, IsKnown, AreKnown}
-use Rattle.pool_search.specs.Leads.{HasMovedTo, IsEdge, LeadsBeside, IsBeside, OneStaysOn, StaysIn, ByAll, ByThose, StaysAt}
-use Rattle.pool_search.specs.Trials.{is_asked}
+use Rattle.pool_search.specs.Leads.{HasMovedTo, IsEdge, LeadsBeside, IsBeside, OneStaysOn, StaysIn, ByAll, ByThose, ByBirth, StaysAt}
+use Rattle.pool_search.specs.Trials.{is_asked, is_birth}
 use Rattle.visited_set.specs.declared.waiters.Waiter.{Waiter}
 use Rattle.visited_set.proofs.Laws.{below_or_from, has_more}
 use Rattle.pool_search.proofs.ListGrowth.{each_at, each_weaker}
@@ -307,6 +308,12 @@ module _ (p : ProgramTree) (es : Entries) (all : List Waiter) (o : ℕ) where
       let awaited : IsAwaited p n b c = record h { one = on.label; to = s.0; is_its = on.asked; possible = s.1 } in
       subst (StaysIn p es all o at) is (ByThose b awaited stays on.leads (subst (λ (i : ℕ). at < i) (sym on.to) on.later))
 
+  -- a creation does
+  pub stays_by_birth : (at : ℕ) (e : Passed) (l : Label) → is_birth e.next l ≡ true → LeadsBeside p es all o e.next e.configuration l → StaysIn p es all o at e
+  stays_by_birth at e (L.New b m class) births leads =
+      ByBirth b class (subst (λ (n : ℕ). LeadsBeside p es all o e.next e.configuration (L.New b n class)) (equal m e.next births) leads)
+  stays_by_birth at e _ births leads = absurd (cc)
+
   leads_beside : (n : ℕ) (c d : Configuration) (l : Label) (ls : List Label) → Each (IsBeside p es all o n c) ls → IsAmong l ls → transition p c l ≡ Some d → LeadsBeside p es all o n c l
   leads_beside n c d l [] h i t = absurd i
   leads_beside n c d l (m ∷ ls) h (inr i) t = leads_beside n c d l ls h.1 i t
@@ -361,15 +368,20 @@ module _ (p : ProgramTree) (es : Entries) (all : List Waiter) (o : ℕ) where
       (λ l its d named t.
       freely n c d l t (leads_beside n c d l (filter (is_served b) (labels_to_try p n c)) stays (among_those (is_served b) l (labels_to_try p n c) its (all_labels p c d n l named t)) t))
       awaited.to leads.edge.last step g.settled leads.to later (leads.waits, (leads.edge.items, there))
+  tried_open less at n c w (ByBirth b class leads) =
+      let whole : run p c (L.New b n class ∷ leads.edge.settled) ≡ Some leads.edge.last = ap (run p c) (sym leads.edge.is) ∙ leads.edge.leads in
+      let s = given_by (transition p c (L.New b n class)) (λ (x : Configuration). run p x leads.edge.settled) leads.edge.last whole in
+      let g = goes n c s.0 (L.New b n class) s.1 leads in
+      CreatedThere b class (λ m. ap not g.still) s.0 leads.edge.last s.1 g.settled leads.to (leads.waits, (leads.edge.items, leads.edge.there))
 
   closed_beside : IsNameless p → AllInOrder es → Each (StaysAt p es all o) all → IsClosedByChoices p (beside o) (open_states o es all)
   closed_beside less sorted stays = record {
     in_order = λ n c i. let r = open_at es all o n c i in each_at (λ (e : Passed). IsInOrder e.configuration) es r.0 (entry n r.1.1.0 c) sorted r.1.1.1;
-    in_the_end = λ n c i. let r = open_at es all o n c i in in_the_end_by_places p (beside o) (open_states o es all) (IsOpenAt es all o) (length es) within inside tried r.0 n c r.1;
+    in_the_end = λ n c i. let r = open_at es all o n c i in in_the_end_by_places p (beside o) (open_states o es all) (IsOpenAt es all o) (length es) (top es) within inside tried r.0 n c r.1;
   }
     where
-      within : (at n : ℕ) (c : Configuration) → IsOpenAt es all o at n c → at ≤ length es
-      within at n c h = let k = slice_get_within es at (entry n h.1.0 c) h.1.1 in omega arith
+      within : (at n : ℕ) (c : Configuration) → IsOpenAt es all o at n c → (at ≤ length es) × (n ≤ top es)
+      within at n c h = (let k = slice_get_within es at (entry n h.1.0 c) h.1.1 in omega arith, below_top es at n h.1.0 c h.1.1)
 
       inside : (at n : ℕ) (c : Configuration) → IsOpenAt es all o at n c → IsIn n c (open_states o es all)
       inside at n c h = in_open o at es all (entry n h.1.0 c) h.0 h.1.1

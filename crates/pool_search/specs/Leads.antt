@@ -2,7 +2,9 @@
 use Rattle.std.specs.Prelude.{◌≡◌, ◌⊎◌, ◌<◌, ℕ, List, ◌∷◌, Option, Some, None, true, false, slice_get}
 use Rattle.std.specs.List.{filter}
 use Rattle.run_types.specs.declared.types.Item.{Item}
+use Rattle.run_types.specs.declared.types.NameId.{NameId}
 use Rattle.run_types.specs.declared.types.Label.{Label}
+use Rattle.run_types.specs.declared.types.Label.TheVariants as N
 use Rattle.run_types.specs.Tables.{Each}
 use Rattle.pool_syntax.specs.Terms.{ProgramTree}
 use Rattle.pool_relation.specs.Configuration.{Configuration}
@@ -75,11 +77,12 @@ module _ (p : ProgramTree) (es : Entries) (ws : List Waiter) (o : ℕ) where
     pub to : leads.to ≡ place
 
   -- Each label of the entry at the place `at` is impossible or leads so. Or each of those of an awaited object is, and one
-  -- of them leads to a later entry.
+  -- of them leads to a later entry. Or a creation leads so.
   pub data StaysIn (at : ℕ) (e : Passed) : Type 0 where
     ByAll : Each (IsBeside e.next e.configuration) (labels_to_try p e.next e.configuration) → StaysIn at e
     ByThose : (b : ℕ) (awaited : IsAwaited p e.next b e.configuration) → Each (IsBeside e.next e.configuration) (filter (is_served b) (labels_to_try p e.next e.configuration))
         → (leads : LeadsBeside e.next e.configuration awaited.one) → at < leads.to → StaysIn at e
+    ByBirth : (b : ℕ) (class : NameId) → LeadsBeside e.next e.configuration (N.New b e.next class) → StaysIn at e
 
   -- the same of the entry of the waiter, if the waiter is the object and not known to go on
   abbrev pub StaysAt : Waiter → Type 0

@@ -1,7 +1,8 @@
 -- The labels of an entry that are tried, and the results of trials.
-use Rattle.std.specs.Prelude.{◌≡◌, ◌<◌, ℕ, List, Option, Some, None, Bool, true, false, slice_get}
+use Rattle.std.specs.Prelude.{◌≡◌, ◌<◌, ◌==◌, ℕ, List, Option, Some, None, Bool, true, false, slice_get}
 use Rattle.run_types.specs.declared.types.Item.{Item}
 use Rattle.run_types.specs.declared.types.Label.{Label}
+use Rattle.run_types.specs.declared.types.Label.TheVariants as L
 use Rattle.pool_syntax.specs.Terms.{ProgramTree}
 use Rattle.pool_relation.specs.Configuration.{Configuration}
 use Rattle.pool_relation.specs.Transition.{transition}
@@ -23,6 +24,17 @@ is_tried T.Over = false
 abbrev pub is_asked : Option ℕ → Label → Bool
 is_asked None l = true
 is_asked (Some b) l = is_served b l
+
+-- the label gives the name n to a new object
+abbrev pub is_birth : ℕ → Label → Bool
+is_birth n (L.New o m k) = m == n
+is_birth n _ = false
+
+-- so does the label at this place
+pub record IsBirthAt (n : ℕ) (ls : List Label) (place : ℕ) : Type 0 where
+  pub label : Label
+  pub there : slice_get ls place ≡ Some label
+  pub births : is_birth n label ≡ true
 
 -- some label is possible in c
 pub record CanMove (p : ProgramTree) (c : Configuration) : Type 0 where

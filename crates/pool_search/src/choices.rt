@@ -1,8 +1,8 @@
-//! The labels of an entry that are tried: all, or those of one object where they are enough.
-ghost use Rattle.std.specs.Prelude.{◌≡◌, ◌<◌, ◌⊎◌, ℕ, suc, slice_get, true, not};
+//! The labels of an entry that are tried: all, or those of one object where they are enough, or one creation.
+ghost use Rattle.std.specs.Prelude.{◌≡◌, ◌<◌, ◌⊎◌, ℕ, suc, Some, IfSome, slice_get, true, not};
 ghost use Rattle.std.specs.List.{list_any};
 ghost use Rattle.search_laws.specs.Stubborn.{is_served};
-ghost use Rattle.pool_search.specs.Trials.{is_asked, is_tried};
+ghost use Rattle.pool_search.specs.Trials.{IsBirthAt, is_asked, is_birth, is_tried};
 
 use object_moves::same_values;
 use run_types::Label;
@@ -53,6 +53,28 @@ pub fn serves_some(object: u32, labels: &[Label]) -> bool
     ensures { result ≡ list_any (is_served object) labels.now }
 {
     labels.iter().any(|label| is_served(object, label))
+}
+
+/// Whether the label gives this name to a new object.
+fn is_birth(next: u32, label: &Label) -> bool
+    ensures { result ≡ is_birth next label.now }
+{
+    match *label {
+        Label::New { name, .. } => name == next,
+        _ => false,
+    }
+}
+
+/// The place of the first label that gives this name to a new object.
+pub fn birth_place(labels: &[Label], next: u32) -> Option<usize>
+    ensures { IfSome result (λ place. IsBirthAt next labels.now place) }
+{
+    for (place, label) in labels.iter().enumerate() {
+        if is_birth(next, label) {
+            return Some(place);
+        }
+    }
+    None
 }
 
 /// Whether both labels take an equal message of one sender.

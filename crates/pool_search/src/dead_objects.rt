@@ -17,7 +17,7 @@ ghost use Rattle.pool_search.specs.Progress.{AllInOrder};
 ghost use Rattle.pool_search.specs.Trials.{is_asked, is_tried};
 
 use crate::changes::some_changes;
-use crate::choices::{Trial, is_asked, later};
+use crate::choices::{Trial, birth_place, is_asked, later};
 use crate::explored::Explored;
 use crate::going_on::Lead;
 use label_list::LabelList;
@@ -186,7 +186,7 @@ impl<'a> Explored<'a> {
 
     /// Whether the same holds of all labels of entry `at`, or of those that some awaited object serves. `labels` are
     /// all to try.
-    fn stays_where(
+    fn stays_by_trials(
         &mut self,
         suspect: &Suspect<'_>,
         at: u32,
@@ -206,6 +206,55 @@ impl<'a> Explored<'a> {
                 Ok(trial) => Ok(!trial.is_over()),
                 Err(_) => Err(AllocError),
             },
+            Err(_) => Err(AllocError),
+        }
+    }
+
+    /// Whether the same holds of the first label of entry `at` that creates an object. `labels` are all to try.
+    fn stays_by_birth(
+        &mut self,
+        suspect: &Suspect<'_>,
+        at: u32,
+        labels: &[Label],
+        made: &mut LabelList,
+    ) -> Result<bool, AllocError>
+        requires exists { at < length (entries self.old) }
+        ensures same { entries self.new ≡ entries self.old }
+        ensures program { searched self.new ≡ searched self.old }
+        ensures stays { result ≡ Ok true → (e : Passed) → slice_get (entries self.old) at ≡ Some e → StaysIn (searched self.old) (entries self.old) suspect.now.waiters.now.list.items suspect.now.object at e }
+    {
+        let Some(place) = birth_place(labels, self.kept.next_name(at as usize)) else {
+            return Ok(false);
+        };
+        let Some(label) = labels.get(place) else {
+            return Ok(false);
+        };
+        match self.is_beside(suspect, at, label, made) {
+            Ok(Trial::Led(_)) => Ok(true),
+            Ok(_) => Ok(false),
+            Err(_) => Err(AllocError),
+        }
+    }
+
+    /// Whether the same holds of all labels of entry `at`, or of a creation alone, or of those that some awaited object
+    /// serves. `labels` are all to try.
+    fn stays_where(
+        &mut self,
+        suspect: &Suspect<'_>,
+        at: u32,
+        labels: &[Label],
+        made: &mut LabelList,
+    ) -> Result<bool, AllocError>
+        requires exists { at < length (entries self.old) }
+        requires in_order { AllInOrder (entries self.old) }
+        requires labels { (e : Passed) → slice_get (entries self.old) at ≡ Some e → labels.now ≡ labels_to_try (searched self.old) e.next e.configuration }
+        ensures same { entries self.new ≡ entries self.old }
+        ensures program { searched self.new ≡ searched self.old }
+        ensures stays { result ≡ Ok true → (e : Passed) → slice_get (entries self.old) at ≡ Some e → StaysIn (searched self.old) (entries self.old) suspect.now.waiters.now.list.items suspect.now.object at e }
+    {
+        match self.stays_by_birth(suspect, at, labels, made) {
+            Ok(true) => Ok(true),
+            Ok(false) => self.stays_by_trials(suspect, at, labels, made),
             Err(_) => Err(AllocError),
         }
     }

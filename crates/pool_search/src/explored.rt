@@ -17,7 +17,7 @@ ghost use Rattle.pool_search.specs.Trials.{CanMove, is_asked, is_tried, OneLeads
 ghost use Rattle.visited_set.specs.VisitedConfigurations.{entry};
 ghost use Rattle.pool_search.specs.Progress.{AllInOrder, AllReached, Grows, IsReachedWith, IsSearchedTo, HasSearched};
 
-use crate::choices::{Trial, is_again, is_asked, later, serves_some};
+use crate::choices::{Trial, birth_place, is_again, is_asked, later, serves_some};
 use crate::classifier::{Classification, judge};
 use crate::progress::Progress;
 use crate::queries::Query;
@@ -453,7 +453,7 @@ impl<'a> Explored<'a> {
 
     /// Tries these labels of entry `at`, or those of one object where that is enough. They are all to try. `Led` if one
     /// of them leads to a later entry. An error means out of memory.
-    fn try_enough(
+    fn try_choices(
         &mut self,
         at: u32,
         labels: &[Label],
@@ -478,8 +478,58 @@ impl<'a> Explored<'a> {
         }
     }
 
-    /// Tries the labels of entry `at`: all, or those of one object where that is enough. `Led` if one of them leads to
-    /// a later entry. An error means out of memory.
+    /// Tries the first label of entry `at` that creates an object. `labels` are all to try. `Led` if there is one. An
+    /// error means out of memory.
+    fn try_birth(&mut self, at: u32, labels: &[Label], scope: Scope) -> Result<Trial, AllocError>
+        requires exists { at < length (entries self.old) }
+        requires reached { AllReached (searched self.old) (course_of scope.keeps) (entries self.old) }
+        ensures program { searched self.new ≡ searched self.old }
+        ensures grows { IfOk result (λ t. is_tried t ≡ true → Grows (searched self.old) (course_of scope.keeps) scope.most (entries self.old) (entries self.new)) }
+        ensures expanded { (i : ℕ) → result ≡ Ok (Trial.Led i) → (e : Passed) → slice_get (entries self.old) at ≡ Some e
+            → IsExpanded (searched self.old) (course_of scope.keeps) (entries self.new) at e.next e.items e.configuration × CanMove (searched self.old) e.configuration }
+    {
+        let Some(place) = birth_place(labels, self.kept.next_name(at as usize)) else {
+            return Ok(Trial::Tried);
+        };
+        let Some(label) = labels.get(place) else {
+            return Ok(Trial::Tried);
+        };
+        let origin = Origin {
+            from: at,
+            label: number(place),
+        };
+        self.follow(label, origin, scope)
+    }
+
+    /// Tries these labels of entry `at`, or a creation among them, or those of one object where that is enough. They are
+    /// all to try. `Led` if one of them leads to an entry. An error means out of memory.
+    fn try_enough(
+        &mut self,
+        at: u32,
+        labels: &[Label],
+        known: u64,
+        scope: Scope,
+    ) -> Result<Trial, AllocError>
+        requires exists { at < length (entries self.old) }
+        requires in_order { AllInOrder (entries self.old) }
+        requires reached { AllReached (searched self.old) (course_of scope.keeps) (entries self.old) }
+        requires labels { (e : Passed) → slice_get (entries self.old) at ≡ Some e → labels.now ≡ labels_to_try (searched self.old) e.next e.configuration }
+        ensures program { searched self.new ≡ searched self.old }
+        ensures grows { IfOk result (λ t. is_tried t ≡ true → Grows (searched self.old) (course_of scope.keeps) scope.most (entries self.old) (entries self.new)) }
+        ensures expanded { IfOk result (λ t. is_tried t ≡ true → (e : Passed) → slice_get (entries self.old) at ≡ Some e
+            → IsExpanded (searched self.old) (course_of scope.keeps) (entries self.new) at e.next e.items e.configuration) }
+        ensures led { (i : ℕ) → result ≡ Ok (Trial.Led i) → (e : Passed) → slice_get (entries self.old) at ≡ Some e → CanMove (searched self.old) e.configuration }
+    {
+        match self.try_birth(at, labels, scope) {
+            Ok(Trial::Tried) => self.try_choices(at, labels, known, scope),
+            Ok(Trial::Led(to)) => Ok(Trial::Led(to)),
+            Ok(Trial::Over) => Ok(Trial::Over),
+            Err(_) => Err(AllocError),
+        }
+    }
+
+    /// Tries the labels of entry `at`: all, or a creation alone, or those of one object where that is enough. `Led` if
+    /// one of them leads to an entry. An error means out of memory.
     pub fn expand(
         &mut self,
         alloc: Global,

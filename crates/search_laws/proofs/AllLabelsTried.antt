@@ -20,12 +20,12 @@ use Rattle.reachability.specs.Search.{is_in_call, WaitsAt, IsFaulty, IsIn, IsInO
 use Rattle.reachability.specs.Labels.{IsAmong, labels_to_try, is_silent}
 use Rattle.reachability.specs.Outcomes.{items_of}
 use Rattle.search_laws.specs.ClosedBeside.{SettlesFreely, AtRest, GoesFreely}
-use Rattle.search_laws.specs.Outcomes.{needs_no_order, SettlesWith, Rests, GoesOn, Passed, IsPassed, IsEnoughWith, AllOfThem, Chosen, IsWholeWithChoices}
+use Rattle.search_laws.specs.Outcomes.{needs_no_order, SettlesWith, Rests, GoesOn, Passed, IsPassed, IsEnoughWith, AllOfThem, Chosen, Created, IsWholeWithChoices}
 use Rattle.search_laws.specs.PutOff.{any, IsWholeByChoices}
-use Rattle.search_laws.specs.TriedAt.{IsTriedAt, AllThere, SomeThere}
+use Rattle.search_laws.specs.TriedAt.{IsTriedAt, AllThere, SomeThere, CreatedThere}
 use Rattle.search_laws.specs.Renamed.{IsNameless}
 use Rattle.search_laws.specs.Stubborn.{is_served}
-use Rattle.search_laws.specs.Tried.{Course, KeepsNothing, states_only, with_writes, Follows, Stays, GoesBy, LeadsInto, AllLeadInto, IsExpanded, Every, Those, AreTried, IsTried, state_of}
+use Rattle.search_laws.specs.Tried.{Course, KeepsNothing, states_only, with_writes, Follows, Stays, GoesBy, LeadsInto, AllLeadInto, IsExpanded, Every, Those, ByBirth, AreTried, IsTried, state_of}
 use Rattle.search_laws.proofs.Enough.{who_is_awaited_is_enough}
 use Rattle.search_laws.proofs.PutOff.{in_the_end_by_places}
 use Rattle.search_laws.proofs.ReducedSearch.{first_of}
@@ -154,6 +154,19 @@ is_in_at (e ∷ es) zero n w c h =
     inl (ap (λ (x : Passed). x.next) is, ap (λ (x : Passed). x.configuration) is)
 is_in_at (e ∷ es) (suc j) n w c h = inr (is_in_at es j n w c h)
 
+-- no entry has a greater next name
+abbrev pub top : List Passed → ℕ
+top [] = 0
+top (e ∷ es) = e.next + top es
+
+pub below_top : (es : List Passed) (j n : ℕ) (w : List Item) (c : Configuration) → slice_get es j ≡ Some (entry n w c) → n ≤ top es
+below_top [] j n w c h = absurd (let z : None ≡ Some (entry n w c) = h in cc)
+below_top (e ∷ es) zero n w c h =
+    let is : e ≡ entry n w c = same_some h in
+    let at = ap (λ (x : Passed). x.next) is in
+    omega (arith, at)
+below_top (e ∷ es) (suc j) n w c h = let low = below_top es j n w c h in omega (arith, low)
+
 -- the entry at this place has this configuration and next name
 abbrev IsAt : List Passed → ℕ → ℕ → Configuration → Type 0
 IsAt es j n c = (w : List Item) × (slice_get es j ≡ Some (entry n w c))
@@ -164,6 +177,9 @@ leads_freely p es n w c d l h = (refl, (h.to, freely p d h.to h.follows, is_in_s
 
 tried_by_places : (p : ProgramTree) (es : List Passed) (j n : ℕ) (w : List Item) (c : Configuration) → IsNameless p → IsExpanded p states_only es j n w c → IsTriedAt p any (map state_of es) (IsAt es) j n c
 tried_by_places p es j n w c less (Every all) = AllThere (λ l d next t. leads_freely p es n w c d l (every_leads p states_only es n w c all l d next t))
+tried_by_places p es j n w c less (ByBirth o class leads) =
+    let at = placed es (suc n) (w ++ []) leads.to leads.is_in in
+    CreatedThere o class (λ m. refl) leads.next leads.to leads.step (freely p leads.next leads.to leads.follows) at.0 (w ++ [], at.1)
 tried_by_places p es j n w c less (Those b awaited some place later on) =
     let enough = who_is_awaited_is_enough p n b c less awaited in
     let step : transition p c enough.0.one ≡ Some on.next = ap (transition p c) enough.1 ∙ on.step in
@@ -179,12 +195,12 @@ whole_by_trying p es less all = record {
     in_the_end = λ n c i.
         let r = passed_by es n c i in
         let at = placed es n r.0 c r.1 in
-        in_the_end_by_places p any (map state_of es) (IsAt es) (length es) within inside tried at.0 n c (r.0, at.1);
+        in_the_end_by_places p any (map state_of es) (IsAt es) (length es) (top es) within inside tried at.0 n c (r.0, at.1);
   };
 }
   where
-    within : (j n : ℕ) (c : Configuration) → IsAt es j n c → j ≤ length es
-    within j n c at = let h = slice_get_within es j (entry n at.0 c) at.1 in omega arith
+    within : (j n : ℕ) (c : Configuration) → IsAt es j n c → (j ≤ length es) × (n ≤ top es)
+    within j n c at = (let h = slice_get_within es j (entry n at.0 c) at.1 in omega arith, below_top es j n at.0 c at.1)
 
     inside : (j n : ℕ) (c : Configuration) → IsAt es j n c → IsIn n c (map state_of es)
     inside j n c at = is_in_at es j n at.0 c at.1
@@ -228,6 +244,7 @@ leads_with p es n w c d l h =
 
 enough_with : (p : ProgramTree) (es : List Passed) (j n : ℕ) (w : List Item) (c : Configuration) → IsNameless p → IsExpanded p with_writes es j n w c → IsEnoughWith p es n w c
 enough_with p es j n w c less (Every all) = AllOfThem (λ l d next t. leads_with p es n w c d l (every_leads p with_writes es n w c all l d next t))
+enough_with p es j n w c less (ByBirth o class leads) = Created o class leads.next leads.to [] leads.step (settled_with p leads.next leads.to leads.follows) leads.is_in
 enough_with p es j n w c less (Those b awaited some place later on) =
     Chosen (is_served b) (who_is_awaited_is_enough p n b c less awaited).0 (served_writes_nothing b) (λ l its d next t. leads_with p es n w c d l (those_lead p with_writes es n w c b some l its d next t))
 

@@ -18,7 +18,7 @@ use Rattle.search_laws.proofs.SearchCompleteness.{lone, below_start, lone_rename
 use Rattle.search_laws.proofs.ReducedSearch.{stays, both_hold, First, first_of, joined_step}
 use Rattle.search_laws.proofs.Commutation.{Alone, alone_makes_none, same_label, commutes}
 use Rattle.search_laws.proofs.ChoiceFreeRuns.{sorted_after, start_sorted}
-use Rattle.search_laws.proofs.Choices.{same_next, Split, split, around, joined, longer}
+use Rattle.search_laws.proofs.Splits.{same_next, Split, split, around, joined, longer}
 
 pub dearer : (cost : Label → ℕ) (ls ks : List Label) (l : Label) → costs cost (ls ++ l ∷ ks) ≡ cost l + costs cost (ls ++ ks)
 dearer cost [] ks l = refl

@@ -1,6 +1,6 @@
 -- What a list of a search tells that puts off no label for ever: that no object is faulty, that none is dead, and which
 -- one is dead.
-use Rattle.std.proofs.Common.{◌≡◌, ◌≢◌, ◌<◌, refl, sym, ap, ◌∙◌, subst, ℕ, List, ◌∷◌, length, map, Option, Some, None, is_some, Bool, true, false, not, ◌||◌, ◌==◌, arith}
+use Rattle.std.proofs.Common.{◌≡◌, ◌≢◌, ◌<◌, refl, sym, ap, ◌∙◌, subst, ℕ, suc, List, ◌∷◌, length, map, Option, Some, None, is_some, Bool, true, false, not, ◌||◌, ◌==◌, arith}
 use Rattle.run_types.proofs.Laws.{differ, given_by, same_some}
 use Rattle.run_types.specs.declared.types.Label.{Label}
 use Rattle.run_types.specs.declared.types.Label.TheVariants as L
@@ -27,8 +27,8 @@ use Rattle.search_laws.proofs.NamesInOrder.{swap_first, swapped, same_all, arran
 use Rattle.search_laws.proofs.SearchCompleteness.{lone, below_start, lone_renamed, fault_kept}
 use Rattle.search_laws.proofs.ChoiceFreeRuns.{start_sorted}
 use Rattle.search_laws.proofs.Dead.{unchanged, still_has_dead, dead_kept, some_renamed, not_dead}
-use Rattle.search_laws.proofs.Known.{Known}
-use Rattle.search_laws.proofs.PutOff.{all_still, tells}
+use Rattle.search_laws.proofs.Known.{Known, known_start}
+use Rattle.search_laws.proofs.PutOff.{all_still, known_settled, tells}
 
 -- under other names, labels that name new objects in order lead to d
 pub record ComesInOrder (p : ProgramTree) (d : Configuration) : Type 0 where
@@ -83,13 +83,15 @@ pub record OneHas (Q : Configuration → Type 0) (es : List (ℕ × Configuratio
   pub holds : Q seen
 
 -- such a list has a property that every transition keeps, if labels that name new objects in order lead to it
-pub found_by_choices : (Q : Configuration → Type 0) (p : ProgramTree) → ((c e : Configuration) (k : Label) → transition p c k ≡ Some e → Q c → Q e) → (es : List (ℕ × Configuration)) → IsWholeByChoices p es
+pub found_by_choices : (Q : Configuration → Type 0) (p : ProgramTree) → IsNameless p → ((c e : Configuration) (k : Label) → transition p c k ≡ Some e → Q c → Q e)
+    → ((g : Renaming) (d x : Configuration) → IsRenamed g.to d x → Q d → Q x) → (es : List (ℕ × Configuration)) → IsWholeByChoices p es
     → (first d : Configuration) (ls : List Label) → start p 0 ≡ Some first → in_order 1 ls ≡ true → run p first ls ≡ Some d → Q d → OneHas Q es
-found_by_choices Q p kept es whole first d ls starts orders leads holds =
+found_by_choices Q p less kept named es whole first d ls starts orders leads holds =
     let b = whole.begins first starts in
     let w = all_still p any (λ ks x. Q x) (λ t ks x f q. q) (λ l ks ms x y f q. f q) (λ t ks x y f i q. kept x y t i q) 1 first d b.0 ls (start_sorted p first starts) b.1 orders leads in
-    tells p any (λ ks x. Q x) (λ t ks x f q. q) (λ l ks ms x y f q. f q) (λ t ks x y f i q. kept x y t i q) es whole.closed (OneHas Q es) (λ n c i q. record { next = n; seen = c; is_in = i; holds = q })
-    (length w.labels) 1 b.0 w.to w.labels (omega arith) b.2 w.orders w.leads (w.holds holds)
+    let known = known_settled p any less 1 first b.0 (known_start p less first starts) b.1 in
+    tells p any (λ ks x. Q x) (λ t ks x f q. q) (λ l ks ms x y f q. f q) (λ t ks x y f i q. kept x y t i q) less 0 (λ g ks x y keeps same q. named g x y same q) es whole.closed (OneHas Q es)
+    (λ n c i q. record { next = n; seen = c; is_in = i; holds = q }) (length w.labels) 1 b.0 w.to w.labels (omega arith) (omega arith) known b.2 w.orders w.leads (w.holds holds)
 
 -- so if names do not matter to the property and no configuration of the list has it, no run leads to one that has it
 module _ (Q : Configuration → Type 0) (p : ProgramTree) (kept : (c e : Configuration) (k : Label) → transition p c k ≡ Some e → Q c → Q e)
@@ -98,7 +100,7 @@ module _ (Q : Configuration → Type 0) (p : ProgramTree) (kept : (c e : Configu
       → ((n : ℕ) (c : Configuration) → IsIn n c es → ¬ (Q c)) → (d : Configuration) → IsReached p d → ¬ (Q d)
   never_by_choices es less whole none d reached holds =
       let r = comes_in_order p less d reached in
-      let s = found_by_choices Q p kept es whole r.first r.to r.labels r.starts r.orders r.leads (named r.names d r.to r.same holds) in
+      let s = found_by_choices Q p less kept named es whole r.first r.to r.labels r.starts r.orders r.leads (named r.names d r.to r.same holds) in
       none s.next s.seen s.is_in s.holds
 
 -- an error that an object has met stays
@@ -178,6 +180,7 @@ for_ends p es whole =
 
     by : (n : ℕ) (c : Configuration) → IsTriedInTheEnd p any es n c → IsEnough p es n c
     by n c (P.Every leads) = E.All (λ l. into n c l (leads l))
+    by n c (P.Created o k is_free d e step settles there rest) = E.Created o k d e step (settled d e settles) there
     by n c (P.Chosen chosen stubborn leads d e step settles there rest) = E.Some_of_them chosen stubborn (λ l h. into n c l (leads l h))
 
 -- an object that waits, and that no label changes that was tried in a part of the list
@@ -197,15 +200,16 @@ module _ (p : ProgramTree) (o : ℕ) where
       by false u v f h = f h
 
   -- no run from the part changes it that names new objects in order
-  pub never_beside_by_choices : (es : List (ℕ × Configuration)) → IsClosedByChoices p (beside o) es → (n : ℕ) (c d : Configuration) (ls : List Label) → IsIn n c es
+  pub never_beside_by_choices : IsNameless p → (es : List (ℕ × Configuration)) → IsClosedByChoices p (beside o) es → (n : ℕ) (c d : Configuration) (ls : List Label) → IsIn n c es → Known n c → o < n
       → in_order n ls ≡ true → run p c ls ≡ Some d → some_changes o ls ≡ false
-  never_beside_by_choices es closed n c d ls i s r = by (some_changes o ls) refl
+  never_beside_by_choices less es closed n c d ls i known lower s r = by (some_changes o ls) refl
     where
       by : (b : Bool) → some_changes o ls ≡ b → some_changes o ls ≡ false
       by false e = e
       by true e =
-          absurd (tells p (beside o) (λ ks x. some_changes o ks ≡ true) (λ t ks x f h. sym (ap (λ u. u || some_changes o ks) (is_beside t f)) ∙ h) (λ l ks ms x y f h. behind l ks ms f h) (λ t ks x y f j h. h) es closed ⊥
-          (λ m x j h. absurd (let z : false ≡ true = h in cc)) (length ls) n c d ls (omega arith) i s r e)
+          absurd (tells p (beside o) (λ ks x. some_changes o ks ≡ true) (λ t ks x f h. sym (ap (λ u. u || some_changes o ks) (is_beside t f)) ∙ h) (λ l ks ms x y f h. behind l ks ms f h) (λ t ks x y f j h. h) less (suc o)
+          (λ g ks x y keeps same h. sym (ap (λ q. some_changes q (map (renamed_label g.to) ks)) (keeps o (omega arith))) ∙ some_renamed g o ks ∙ h) es closed ⊥
+          (λ m x j h. absurd (let z : false ≡ true = h in cc)) (length ls) n c d ls (omega arith) lower known i s r e)
 
   pub dead_by_choices : IsNameless p → (n : ℕ) (es : List (ℕ × Configuration)) (c : Configuration) → IsClosedByChoices p (beside o) es → IsIn n c es → Known n c → WaitsAt p c o → IsDead p c o
   dead_by_choices less n es c closed i known waits = record { waits = waits; never = at_all }
@@ -224,4 +228,4 @@ module _ (p : ProgramTree) (o : ℕ) where
           by g keeps orders u v j k (Both {d = e} s) =
               let leads : run p c (map (renamed_label g.to) ls) ≡ Some e = ap (λ q. run q c (map (renamed_label g.to) ls)) (sym (less g.to)) ∙ k in
               sym (some_renamed g o ls) ∙ ap (λ q. some_changes q (map (renamed_label g.to) ls)) (keeps o there)
-              ∙ never_beside_by_choices es closed n c e (map (renamed_label g.to) ls) i orders leads
+              ∙ never_beside_by_choices less es closed n c e (map (renamed_label g.to) ls) i known there orders leads

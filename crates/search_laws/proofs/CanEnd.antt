@@ -28,14 +28,19 @@ at_end_back f p c d less same ended = λ l. by l (transition p c l) refl
         let there : transition p d (renamed_label f.to l) ≡ Some s.0 = ap (λ q. transition q d (renamed_label f.to l)) (sym (less f.to)) ∙ s.1 in
         absurd (let z : None ≡ Some s.0 = sym (ended (renamed_label f.to l)) ∙ there in cc)
 
+can_end_back : (f : Renaming) (p : ProgramTree) (c d : Configuration) → IsNameless p → IsRenamed f.to c d → CanEnd p d → CanEnd p c
+can_end_back f p c d less same x =
+    let b = back f p c d less same x.last x.labels x.leads in
+    record { last = b.to; labels = map (renamed_label f.from) x.labels; leads = b.leads; ended = at_end_back f p b.to x.last less b.same x.ended }
+
 -- if from each configuration of the list a run can come to an end, so it can from each that is reached
 pub all_can_end : (p : ProgramTree) (es : List (ℕ × Configuration)) → IsNameless p → IsWholeByChoices p es → ((n : ℕ) (c : Configuration) → IsIn n c es → CanEnd p c) → (d : Configuration) → IsReached p d → CanEnd p d
 all_can_end p es less whole can d reached =
     let h = leads_in p es less whole d reached in
     let x = can h.next h.seen h.is_in in
-    let all : run p h.other (h.toward.labels ++ x.labels) ≡ Some x.last = joined p h.other h.seen h.toward.labels x.labels h.toward.leads ∙ x.leads in
-    let b = back h.names p d h.other less h.same x.last (h.toward.labels ++ x.labels) all in
-    record { last = b.to; labels = map (renamed_label h.names.from) (h.toward.labels ++ x.labels); leads = b.leads; ended = at_end_back h.names p b.to x.last less b.same x.ended }
+    let y = can_end_back h.on.names p h.on.to h.seen less h.on.same x in
+    let all : run p h.other (h.on.toward.labels ++ y.labels) ≡ Some y.last = joined p h.other h.on.to h.on.toward.labels y.labels h.on.toward.leads ∙ y.leads in
+    can_end_back h.names p d h.other less h.same (record { last = y.last; labels = h.on.toward.labels ++ y.labels; leads = all; ended = y.ended })
 
 -- if no configuration of a part that no tried label leaves is an end, no run from there comes to one
 pub never_ends : (p : ProgramTree) (es : List (ℕ × Configuration)) → IsNameless p → IsClosedByChoices p any es → ((n : ℕ) (c : Configuration) → IsIn n c es → ¬ (IsAtEnd p c))
@@ -55,5 +60,6 @@ never_ends p es less closed none n c i known can =
         let is : b ≡ can.last = cc in
         let named : IsRenamed g.to can.last e = subst (λ (y : Configuration). IsRenamed g.to y e) is s in
         let leads : run p c (map (renamed_label g.to) can.labels) ≡ Some e = ap (λ x. run x c (map (renamed_label g.to) can.labels)) (sym (less g.to)) ∙ k in
-        tells p any (λ ks x. IsAtEnd p x) (λ t ks x f h. h) (λ l ks ms x y f h. f h) here es closed ⊥ none (length (map (renamed_label g.to) can.labels)) n c e (map (renamed_label g.to) can.labels) (omega arith) i orders leads
+        tells p any (λ ks x. IsAtEnd p x) (λ t ks x f h. h) (λ l ks ms x y f h. f h) here less 0 (λ f ks x y keeps same h. at_end_kept f p x y less same h) es closed ⊥ none
+        (length (map (renamed_label g.to) can.labels)) n c e (map (renamed_label g.to) can.labels) (omega arith) (omega arith) known i orders leads
         (at_end_kept g p can.last e less named can.ended)

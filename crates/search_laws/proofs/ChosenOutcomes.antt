@@ -1,10 +1,12 @@
 -- A search that keeps what was written and tries only the labels of a stubborn set finds every end, with what the run
 -- wrote.
-use Rattle.std.proofs.Common.{◌≡◌, ◌≤◌, ◌⊎◌, inl, inr, refl, sym, ap, ◌∙◌, subst, ℕ, zero, suc, List, [], ◌∷◌, ◌++◌, length, map, Option, Some, None, Bool, true, append-nil, arith}
-use Rattle.std.proofs.lemmas.List.{append_assoc}
-use Rattle.run_types.proofs.Laws.{first, second, same_some}
+use Rattle.std.proofs.Common.{◌≡◌, ◌≤◌, ◌<◌, ◌⊎◌, inl, inr, refl, sym, ap, ◌∙◌, subst, ℕ, zero, suc, List, [], ◌∷◌, ◌++◌, length, map, Option, Some, None, Bool, true, false, append-nil, arith}
+use Rattle.std.proofs.lemmas.List.{append_assoc, length-map, map-append}
+use Rattle.run_types.proofs.Laws.{first, second, equals, same_some}
 use Rattle.run_types.specs.declared.types.Item.{Item}
+use Rattle.run_types.specs.declared.types.NameId.{NameId}
 use Rattle.run_types.specs.declared.types.Label.{Label}
+use Rattle.run_types.specs.declared.types.Label.TheVariants as L
 use Rattle.run_types.specs.Partial.{◌>>=◌}
 use Rattle.pool_syntax.specs.Terms.{ProgramTree, ClassTree}
 use Rattle.pool_relation.specs.Configuration.{Configuration}
@@ -13,15 +15,18 @@ use Rattle.search_laws.specs.Renamed.{Renaming, renamed_item, renamed_program, r
 use Rattle.reachability.specs.Search.{IsAtEnd, after, names_next, in_order}
 use Rattle.search_laws.specs.Stubborn.{are_others, IsStubborn}
 use Rattle.reachability.specs.Outcomes.{items_of, written, EndsWith, IsOneOf, all_name_none}
-use Rattle.search_laws.specs.Outcomes.{Passed, IsPassed, LeadsWith, IsEnoughWith, AllOfThem, Chosen, IsWholeWithChoices, IsKeptEnd, HasAllEnds}
+use Rattle.search_laws.specs.Outcomes.{needs_no_order, SettlesWith, Rests, GoesOn, Passed, IsPassed, LeadsWith, IsEnoughWith, AllOfThem, Chosen, Created, IsWholeWithChoices, IsKeptEnd, HasAllEnds}
 use Rattle.search_laws.proofs.RenamedTransition.{Alike, Neither, Both}
 use Rattle.search_laws.proofs.RenamedRun.{run_renamed}
 use Rattle.search_laws.proofs.NamesInOrder.{swap_first, swapped, same_all, arranged}
 use Rattle.search_laws.proofs.SearchCompleteness.{lone, below_start, lone_renamed, at_end_kept}
-use Rattle.search_laws.proofs.ReducedSearch.{first_of}
+use Rattle.search_laws.proofs.ReducedSearch.{stays, first_of}
 use Rattle.search_laws.proofs.ChoiceFreeRuns.{start_sorted, sorted_after}
-use Rattle.search_laws.proofs.Outcomes.{Only, free_settles, behind_all, written_renamed, items_are, named_none}
-use Rattle.search_laws.proofs.Choices.{Split, split, around, joined, longer, same_next}
+use Rattle.search_laws.proofs.Outcomes.{no_choice, Only, free_settles, behind_all, written_renamed, items_are, named_none}
+use Rattle.search_laws.proofs.Known.{Known, label_fixed, known_after, known_start}
+use Rattle.search_laws.proofs.RenamedTwice.{composed, items_twice, renamed_twice}
+use Rattle.search_laws.proofs.Births.{Brought, Within, Behind, brought, kind_makes_none, names_any, not_before}
+use Rattle.search_laws.proofs.Splits.{Split, split, around, joined, longer, same_next}
 
 -- without a writer any object may write
 nobody : (p : ProgramTree) (n : ℕ) (c : Configuration) → Only p None n c
@@ -35,30 +40,97 @@ written_joined (l ∷ ls) ks = ap (λ x. items_of l ++ x) (written_joined ls ks)
 pub written_without : (ls ks : List Label) (l : Label) → items_of l ≡ [] → written (ls ++ l ∷ ks) ≡ written (ls ++ ks)
 written_without ls ks l e = written_joined ls (l ∷ ks) ∙ ap (λ x. written ls ++ (x ++ written ks)) e ∙ sym (written_joined ls ks)
 
-module _ (p : ProgramTree) (es : List Passed) (whole : IsWholeWithChoices p es) where
-  onward : (most n : ℕ) (w : List Item) (c y d : Configuration) (l : Label) (ls : List Label)
-      → ((n : ℕ) (w : List Item) (c : Configuration) (ls : List Label) → length ls ≤ most → IsPassed n w c es → in_order n ls ≡ true → run p c ls ≡ Some d → (m : ℕ) × IsPassed m (w ++ written ls) d es)
-      → length ls ≤ most → IsPassed n w c es → LeadsWith p es n w c l → names_next n l ≡ true → transition p c l ≡ Some y
-      → in_order (after n l) ls ≡ true → run p y ls ≡ Some d → IsAtEnd p d → (m : ℕ) × IsPassed m (w ++ (items_of l ++ written ls)) d es
-  onward most n w c y d l ls shorter few i leads named step o r ended =
-      let k = leads y named step in
-      let settled = free_settles p None y k.0 k.1 (sorted_after p c y l (whole.in_order n w c i) step) k.2 in
-      let b = behind_all p None (after n l) y d k.0 k.1 ls (nobody p (after n l) y) settled o r ended in
-      let short = b.shorter in
-      let t = shorter (after n l) (w ++ (items_of l ++ k.1)) k.0 b.labels (omega arith) k.3 b.orders b.leads in
-      let same : (w ++ (items_of l ++ k.1)) ++ written b.labels ≡ w ++ (items_of l ++ written ls) =
-      append_assoc w (items_of l ++ k.1) (written b.labels) ∙ ap (λ x. w ++ x) (append_assoc (items_of l) k.1 (written b.labels)) ∙ ap (λ x. w ++ (items_of l ++ x)) (sym b.writes) in
-      (t.0, subst (λ (v : List Item). IsPassed t.0 v d es) same t.1)
+-- transitions that need no order and are no writes write nothing
+nothing_settles : (p : ProgramTree) (c e : Configuration) (v : List Item) → SettlesWith p None c v e → v ≡ []
+nothing_settles p c e v Rests = refl
+nothing_settles p c e v (GoesOn {d = d} {v = w} l h i rest) = ap (λ x. x ++ w) (silent l h) ∙ nothing_settles p d e w rest
+  where
+    silent : (l : Label) → needs_no_order None l ≡ true → items_of l ≡ []
+    silent (L.Write o i) h = absurd (let z : false ≡ true = h in cc)
+    silent (L.Local o) h = refl
+    silent (L.New o m k) h = refl
+    silent (L.Answer b o m args) h = refl
+    silent (L.Return b o v) h = refl
+    silent (L.Send o b m args) h = refl
+    silent (L.Take b s m args) h = refl
+    silent (L.Pick o i) h = refl
+    silent (L.Fault o e) h = refl
 
-  ends_kept : (most n : ℕ) (w : List Item) (c d : Configuration) (ls : List Label) → length ls ≤ most → IsPassed n w c es → in_order n ls ≡ true → run p c ls ≡ Some d → IsAtEnd p d
-      → (m : ℕ) × IsPassed m (w ++ written ls) d es
-  ends_kept most n w c d [] few i o r ended = let is : c ≡ d = same_some r in (n, subst (λ (v : List Item). IsPassed n v d es) (sym (append-nil w)) (subst (λ (x : Configuration). IsPassed n w x es) is i))
-  ends_kept zero n w c d (l ∷ ls) few i o r ended = absurd (omega arith)
-  ends_kept (suc most) n w c d (l ∷ ls) few i o r ended = by (λ n w c ls few i o r. ends_kept most n w c d ls few i o r ended) (whole.enough n w c i)
+known_with : (p : ProgramTree) → IsNameless p → (n : ℕ) (c e : Configuration) (v : List Item) → Known n c → SettlesWith p None c v e → Known n e
+known_with p less n c e v known Rests = known
+known_with p less n c e v known (GoesOn {d = d} {v = w} l h step rest) =
+    let none = kind_makes_none l (no_choice None l h) in
+    known_with p less n d e w (subst (λ (m : ℕ). Known m d) (stays n l none) (known_after p less n c known d l (names_any n l none) step)) rest
+
+-- The list has the end d of a run that wrote v after w, under other names, which keep those below n.
+record IsKept (es : List Passed) (n : ℕ) (w v : List Item) (d : Configuration) : Type 0 where
+  names : Renaming
+  keeps : (q : ℕ) → q < n → names.to q ≡ q
+  next : ℕ
+  seen : Configuration
+  same : IsRenamed names.to d seen
+  is_in : IsPassed next (w ++ map (renamed_item names.to) v) seen es
+
+module _ (p : ProgramTree) (less : IsNameless p) (es : List Passed) (whole : IsWholeWithChoices p es) where
+  abbrev Keeps : ℕ → Type 0
+  Keeps most = (n : ℕ) (w : List Item) (c d : Configuration) (ls : List Label) → length ls ≤ most → Known n c → IsPassed n w c es → in_order n ls ≡ true → run p c ls ≡ Some d → IsAtEnd p d
+      → IsKept es n w (written ls) d
+
+  -- what a label writes has no new names
+  own_items : (n : ℕ) (c y : Configuration) (l : Label) (g : Renaming) → Known n c → names_next n l ≡ true → transition p c l ≡ Some y → ((q : ℕ) → q < after n l → g.to q ≡ q)
+      → map (renamed_item g.to) (items_of l) ≡ items_of l
+  own_items n c y l g known next step keeps =
+      let more = not_before n l in
+      let fixed : renamed_label g.to l ≡ l = label_fixed p less n c known g (λ q lt. keeps q (omega (arith, lt, more))) y l keeps next step in
+      let all = written_renamed g.to (l ∷ []) in
+      ap (map (renamed_item g.to)) (sym (append-nil (items_of l))) ∙ sym all ∙ append-nil (items_of (renamed_label g.to l)) ∙ ap items_of fixed
+
+  onward : (most n : ℕ) (w v : List Item) (c y e d : Configuration) (l : Label) (ls : List Label) → Keeps most → length ls ≤ most → Known n c → IsPassed n w c es → names_next n l ≡ true → transition p c l ≡ Some y
+      → SettlesWith p None y v e → IsPassed (after n l) (w ++ (items_of l ++ v)) e es → in_order (after n l) ls ≡ true → run p y ls ≡ Some d → IsAtEnd p d → IsKept es n w (items_of l ++ written ls) d
+  onward most n w v c y e d l ls shorter few known i next step to there o r ended =
+      let settled = free_settles p None y e v (sorted_after p c y l (whole.in_order n w c i) step) to in
+      let b = behind_all p None (after n l) y d e v ls (nobody p (after n l) y) settled o r ended in
+      let short = b.shorter in
+      let after_it = known_after p less n c known y l next step in
+      let t = shorter (after n l) (w ++ (items_of l ++ v)) e d b.labels (omega (arith, short, few)) (known_with p less (after n l) y e v after_it to) there b.orders b.leads ended in
+      let more = not_before n l in
+      record {
+        names = t.names;
+        keeps = λ q lt. t.keeps q (omega (arith, lt, more));
+        next = t.next;
+        seen = t.seen;
+        same = t.same;
+        is_in = subst (λ (x : List Item). IsPassed t.next x t.seen es)
+            (same t.names.to v (written b.labels) (nothing_settles p y e v to) b.writes (own_items n c y l t.names known next step t.keeps)) t.is_in;
+      }
     where
-      chosen_first : ((n : ℕ) (w : List Item) (c : Configuration) (ls : List Label) → length ls ≤ most → IsPassed n w c es → in_order n ls ≡ true → run p c ls ≡ Some d → (m : ℕ) × IsPassed m (w ++ written ls) d es)
-          → (chosen : Label → Bool) → IsStubborn p n c chosen → ((l : Label) → chosen l ≡ true → items_of l ≡ []) → ((l : Label) → chosen l ≡ true → LeadsWith p es n w c l)
-          → (are_others chosen (l ∷ ls) ≡ true) ⊎ Split chosen (l ∷ ls) → (m : ℕ) × IsPassed m (w ++ written (l ∷ ls)) d es
+      same : (f : ℕ → ℕ) (v u : List Item) → v ≡ [] → written ls ≡ v ++ u → map (renamed_item f) (items_of l) ≡ items_of l
+          → (w ++ (items_of l ++ v)) ++ map (renamed_item f) u ≡ w ++ map (renamed_item f) (items_of l ++ written ls)
+      same f [] u e h fixed =
+          append_assoc w (items_of l ++ []) (map (renamed_item f) u) ∙ ap (λ x. w ++ (x ++ map (renamed_item f) u)) (append-nil (items_of l))
+          ∙ ap (λ x. w ++ x) (sym (map-append (renamed_item f) (items_of l) (written ls) ∙ ap (λ x. x ++ map (renamed_item f) (written ls)) fixed ∙ ap (λ x. items_of l ++ map (renamed_item f) x) h))
+      same f (x ∷ v) u e h fixed = absurd (cc)
+
+  ends_kept : (most : ℕ) → Keeps most
+  ends_kept most n w c d [] few known i o r ended =
+      let is : c ≡ d = same_some r in
+      record {
+        names = same_all;
+        keeps = λ q lt. refl;
+        next = n;
+        seen = c;
+        same = subst (λ (x : Configuration). IsRenamed same_all.to x c) is (known.fixed same_all (λ q lt. refl));
+        is_in = subst (λ (v : List Item). IsPassed n v c es) (sym (append-nil w)) i;
+      }
+  ends_kept zero n w c d (l ∷ ls) few known i o r ended = absurd (omega arith)
+  ends_kept (suc most) n w c d (l ∷ ls) few known i o r ended = by (ends_kept most) (whole.enough n w c i)
+    where
+      into : Keeps most → (y : Configuration) (k : Label) (ks : List Label) → length ks ≤ most → names_next n k ≡ true → transition p c k ≡ Some y → LeadsWith p es n w c k
+          → in_order (after n k) ks ≡ true → run p y ks ≡ Some d → IsKept es n w (items_of k ++ written ks) d
+      into shorter y k ks few next step leads o r = let s = leads y next step in onward most n w s.1 c y s.0 d k ks shorter few known i next step s.2 s.3 o r ended
+
+      chosen_first : Keeps most → (chosen : Label → Bool) → IsStubborn p n c chosen → ((l : Label) → chosen l ≡ true → items_of l ≡ []) → ((l : Label) → chosen l ≡ true → LeadsWith p es n w c l)
+          → (are_others chosen (l ∷ ls) ≡ true) ⊎ Split chosen (l ∷ ls) → IsKept es n w (written (l ∷ ls)) d
       chosen_first shorter chosen stubborn silent leads (inl none) = let x = stubborn.stays (l ∷ ls) d none o r in absurd (let z : None ≡ Some x.0 = sym (ended stubborn.one) ∙ x.1 in cc)
       chosen_first shorter chosen stubborn silent leads (inr s) =
           let makes = stubborn.makes_none s.one s.is_chosen in
@@ -68,18 +140,48 @@ module _ (p : ProgramTree) (es : List Passed) (whole : IsWholeWithChoices p es) 
           let long = longer s.before s.behind s.one in
           let same = ap length s.is in
           let none = silent s.one s.is_chosen in
-          let t = onward most n w c f.0 d s.one (s.before ++ s.behind) shorter (omega arith) i (leads s.one s.is_chosen) next.1 f.1
-          (ap (λ m. in_order m (s.before ++ s.behind)) next.0 ∙ a.all) (joined p f.0 a.there d s.before s.behind f.2 a.goes_on) ended in
+          let t = into shorter f.0 s.one (s.before ++ s.behind) (omega arith) next.1 f.1 (leads s.one s.is_chosen)
+          (ap (λ m. in_order m (s.before ++ s.behind)) next.0 ∙ a.all) (joined p f.0 a.there d s.before s.behind f.2 a.goes_on) in
           let items : items_of s.one ++ written (s.before ++ s.behind) ≡ written (l ∷ ls) =
           ap (λ x. x ++ written (s.before ++ s.behind)) none ∙ sym (written_without s.before s.behind s.one none) ∙ ap written (sym s.is) in
-          (t.0, subst (λ (v : List Item). IsPassed t.0 v d es) (ap (λ x. w ++ x) items) t.1)
+          subst (λ (v : List Item). IsKept es n w v d) items t
 
-      by : ((n : ℕ) (w : List Item) (c : Configuration) (ls : List Label) → length ls ≤ most → IsPassed n w c es → in_order n ls ≡ true → run p c ls ≡ Some d → (m : ℕ) × IsPassed m (w ++ written ls) d es)
-          → IsEnoughWith p es n w c → (m : ℕ) × IsPassed m (w ++ written (l ∷ ls)) d es
+      -- no end comes before a creation that an object is about to make
+      created_first : Keeps most → (q : ℕ) (k : NameId) (y e : Configuration) (v : List Item) → transition p c (L.New q n k) ≡ Some y → SettlesWith p None y v e → IsPassed (suc n) (w ++ v) e es
+          → Brought p n q k d y (l ∷ ls) → IsKept es n w (written (l ∷ ls)) d
+      created_first shorter q k y e v step to there (Behind m z t a) = absurd (let x : None ≡ Some z = sym (ended (L.New q m k)) ∙ t in cc)
+      created_first shorter q k y e v step to there (Within before behind m is a) =
+          let same = length-map (before ++ behind) (renamed_label a.names.to) in
+          let long = longer before behind (L.New q m k) in
+          let all = ap length is in
+          let t = onward most n w v c y e a.to (L.New q n k) (map (renamed_label a.names.to) (before ++ behind)) shorter (omega (arith, same, long, all, few)) known i (equals n) step to there a.orders a.leads
+          (at_end_kept a.names p d a.to less a.same ended) in
+          let items : map (renamed_item t.names.to) (written (map (renamed_label a.names.to) (before ++ behind))) ≡ map (renamed_item (composed a.names t.names).to) (written (l ∷ ls)) =
+          ap (map (renamed_item t.names.to)) (written_renamed a.names.to (before ++ behind)) ∙ items_twice a.names.to t.names.to (written (before ++ behind))
+          ∙ ap (map (renamed_item (composed a.names t.names).to)) (sym (written_without before behind (L.New q m k) refl) ∙ ap written (sym is)) in
+          record {
+            names = composed a.names t.names;
+            keeps = λ r lt. ap t.names.to (a.keeps r lt) ∙ t.keeps r lt;
+            next = t.next;
+            seen = t.seen;
+            same = renamed_twice a.names t.names d a.to t.seen a.same t.same;
+            is_in = subst (λ (x : List Item). IsPassed t.next (w ++ x) t.seen es) items t.is_in;
+          }
+
+      by : Keeps most → IsEnoughWith p es n w c → IsKept es n w (written (l ∷ ls)) d
       by shorter (AllOfThem leads) =
           let f = first_of p c d l ls r in
-          onward most n w c f.next d l ls shorter (omega arith) i (leads l) (first (names_next n l) (in_order (after n l) ls) o) f.step (second (names_next n l) (in_order (after n l) ls) o) f.rest ended
+          into shorter f.next l ls (omega arith) (first (names_next n l) (in_order (after n l) ls) o) f.step (leads l) (second (names_next n l) (in_order (after n l) ls) o) f.rest
       by shorter (Chosen chosen stubborn silent leads) = chosen_first shorter chosen stubborn silent leads (split chosen (l ∷ ls))
+      by shorter (Created q k y e v step to there) = created_first shorter q k y e v step to there (brought p less n q k c d y (l ∷ ls) known (whole.in_order n w c i) step o r)
+
+-- the list has the end x, with the items that were written under the names g, under other names again
+record IsKeptAfter (es : List Passed) (g : Renaming) (w : List Item) (x : Configuration) : Type 0 where
+  names : Renaming
+  next : ℕ
+  seen : Configuration
+  is_in : IsPassed next (map (renamed_item (composed g names).to) w) seen es
+  same : IsRenamed names.to x seen
 
 pub every_end_is_kept_by_choices : (p : ProgramTree) (es : List Passed) (w : List Item) (d : Configuration) → IsNameless p → IsWholeWithChoices p es → EndsWith p w d → IsKeptEnd p es w d
 every_end_is_kept_by_choices p es w d less whole ends = by (last_class p) refl ends.starts
@@ -97,18 +199,21 @@ every_end_is_kept_by_choices p es w d less whole ends = by (last_class p) refl e
         (λ x i h.
         let b = behind_all p None 1 (lone 0 k) x begins.0 begins.1 (map (renamed_label a.names.to) ends.labels) (nobody p 1 (lone 0 k)) settled a.orders
         (ap (λ q. run q (lone 0 k) (map (renamed_label a.names.to) ends.labels)) (sym (less a.names.to)) ∙ i) h in
-        let t = ends_kept p es whole (length b.labels) 1 begins.1 begins.0 x b.labels (omega arith) begins.3 b.orders b.leads h in
-        let same : begins.1 ++ written b.labels ≡ map (renamed_item a.names.to) w = sym b.writes ∙ written_renamed a.names.to ends.labels ∙ ap (map (renamed_item a.names.to)) ends.writes in
-        (t.0, subst (λ (v : List Item). IsPassed t.0 v x es) same t.1))
+        let known = known_with p less 1 (lone 0 k) begins.0 begins.1 (known_start p less (lone 0 k) starts) begins.2 in
+        let none = nothing_settles p (lone 0 k) begins.0 begins.1 begins.2 in
+        let t = ends_kept p less es whole (length b.labels) 1 begins.1 begins.0 x b.labels (omega arith) known begins.3 b.orders b.leads h in
+        let same : written b.labels ≡ map (renamed_item a.names.to) w = ap (λ v. v ++ written b.labels) (sym none) ∙ sym b.writes ∙ written_renamed a.names.to ends.labels ∙ ap (map (renamed_item a.names.to)) ends.writes in
+        let all : begins.1 ++ map (renamed_item t.names.to) (written b.labels) ≡ map (renamed_item (composed a.names t.names).to) w =
+        ap (λ v. v ++ map (renamed_item t.names.to) (written b.labels)) none ∙ ap (map (renamed_item t.names.to)) same ∙ items_twice a.names.to t.names.to w in
+        record { names = t.names; next = t.next; seen = t.seen; is_in = subst (λ (v : List Item). IsPassed t.next v t.seen es) all t.is_in; same = t.same })
       where
-        there : (g : Renaming) (u : Option Configuration) → u ≡ Some d → (v : Option Configuration) → Alike g.to u v
-            → ((x : Configuration) → v ≡ Some x → IsAtEnd p x → (m : ℕ) × IsPassed m (map (renamed_item g.to) w) x es) → IsKeptEnd p es w d
+        there : (g : Renaming) (u : Option Configuration) → u ≡ Some d → (v : Option Configuration) → Alike g.to u v → ((x : Configuration) → v ≡ Some x → IsAtEnd p x → IsKeptAfter es g w x) → IsKeptEnd p es w d
         there g u i v Neither inside = absurd (cc)
         there g u i v (Both {c = c} {d = x} same) inside =
             let is : c ≡ d = cc in
             let named : IsRenamed g.to d x = subst (λ (y : Configuration). IsRenamed g.to y x) is same in
-            let here = inside x refl (at_end_kept g p d x less named ends.at_end) in
-            record { names = g; next = here.0; seen = x; is_in = here.1; same = named }
+            let h = inside x refl (at_end_kept g p d x less named ends.at_end) in
+            record { names = composed g h.names; next = h.next; seen = h.seen; is_in = h.is_in; same = renamed_twice g h.names d x h.seen named h.same }
 
     by : (o : Option ClassTree) → last_class p ≡ o → (o >>= λ k. Some (lone ends.root k)) ≡ Some ends.first → IsKeptEnd p es w d
     by None i q = absurd (cc)

@@ -191,12 +191,12 @@ refuted p c l n = by (transition p c l) refl
     by (Some d) e = absurd (n d e)
 
 module _ (p : ProgramTree) (c : Configuration) (o : ℕ) (x : Object) (there : object_of c o ≡ Some x) (sound : x.fault ≡ None) (l : Label) (d : Configuration) (t : transition p c l ≡ Some d) where
-  agent_is : (agent l == o) ≡ true → Fits (action p o x) o l
+  pub agent_is : (agent l == o) ≡ true → Fits (action p o x) o l
   agent_is i =
       let e : agent l ≡ o = equal (agent l) o i in
       subst (λ (q : ℕ). Fits (action p q x) q l) e (agent_fits p c d l x t (ap (running c) e ∙ running_at c o x there sound))
 
-  partner_is : (partner l == o) ≡ true → Fits (action p o x) o l
+  pub partner_is : (partner l == o) ≡ true → Fits (action p o x) o l
   partner_is i =
       let e : partner l ≡ o = equal (partner l) o i in
       subst (λ (q : ℕ). Fits (action p q x) q l) e (partner_fits p c d l x t (ap (running c) e ∙ running_at c o x there sound))

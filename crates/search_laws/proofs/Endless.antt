@@ -5,7 +5,7 @@ use Rattle.pool_syntax.specs.Terms.{ProgramTree}
 use Rattle.pool_relation.specs.Configuration.{Configuration}
 use Rattle.pool_relation.specs.Transition.{run}
 use Rattle.search_laws.specs.Bounded.{ComesBack, HasLongRuns}
-use Rattle.search_laws.proofs.Choices.{joined}
+use Rattle.search_laws.proofs.Splits.{joined}
 
 -- the labels, so many times
 abbrev times : ℕ → List Label → List Label

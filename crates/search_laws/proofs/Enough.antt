@@ -124,7 +124,7 @@ module _ (b s : ℕ) (x y : Object) (ms : List Message) where
   }
 
 -- both orders of two transitions that are apart lead to the same configuration
-by_apart : (p : ProgramTree) (Keeps : Configuration → Type 0) (round free : ℕ → Bool) (change : Configuration → Configuration) (a : Apart Keeps round free change) (d e : Configuration) (l : Label) → Keeps d
+pub by_apart : (p : ProgramTree) (Keeps : Configuration → Type 0) (round free : ℕ → Bool) (change : Configuration → Configuration) (a : Apart Keeps round free change) (d e : Configuration) (l : Label) → Keeps d
     → round (agent l) ≡ false → round (partner l) ≡ false → free (receiver l) ≡ true → transition p d l ≡ Some e → transition p (change d) l ≡ Some (change e)
 by_apart p Keeps round free change a d e l h u v w t = by (transition p d l) (transition p (change d) l) t refl (beside p Keeps round free change a d h l u v w)
   where

@@ -100,7 +100,7 @@ module _ (p : ProgramTree) (less : IsNameless p) (n : ℕ) (c : Configuration) (
         sym (ap (λ y. action (renamed_program g.to p) (g.to o) y) (object_fixed o x r) ∙ ap (λ k. action (renamed_program g.to p) k x) (keeps o (present o x r)) ∙ ap (λ q. action q o x) (less g.to))
         ∙ action_renamed g.to (same_names g) p o x
 
-    label_fixed : (d : Configuration) (l : Label) → ((q : ℕ) → q < after n l → g.to q ≡ q) → names_next n l ≡ true → transition p c l ≡ Some d → renamed_label g.to l ≡ l
+    pub label_fixed : (d : Configuration) (l : Label) → ((q : ℕ) → q < after n l → g.to q ≡ q) → names_next n l ≡ true → transition p c l ≡ Some d → renamed_label g.to l ≡ l
     label_fixed d (L.Local o) more i t = let x = given_by (running c o) _ d t in ap L.Local (keeps o (present o x.0 x.1))
     label_fixed d (L.New o m k) more i t =
         let x = given_by (running c o) _ d t in

@@ -19,7 +19,10 @@ pub mod KeptOnTheWay
 pub mod Faults
 pub mod Dead
 pub mod Known
+pub mod Splits
+pub mod Births
 pub mod Choices
+pub mod RenamedTwice
 pub mod PutOff
 pub mod ByChoices
 pub mod GoesOn

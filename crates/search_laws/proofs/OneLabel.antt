@@ -28,6 +28,7 @@ abbrev pub Fits : Action → ℕ → Label → Type 0
 Fits (A.Local term vars) q l = l ≡ L.Local q
 Fits (A.Write item) q l = l ≡ L.Write q item
 Fits (A.Fault e) q l = l ≡ L.Fault q e
+Fits (A.New c) q l = (m : ℕ) × (k : NameId) × (k.0 ≡ c) × (l ≡ L.New q m k)
 Fits (A.Async b m args) q l = (n : NameId) × (n.0 ≡ m) × (l ≡ L.Send q b n args)
 Fits (A.Return k v) q l = l ≡ L.Return q k v
 Fits (A.Waits b m) q l = (v : Value) × (l ≡ L.Return b q v)
@@ -45,9 +46,9 @@ local_fits : (x : Object) (a : Action) (q : ℕ) (y : Object) → local_step x a
 local_fits x (A.Local term vars) q y h = refl
 local_fits x _ q y h = absurd (cc)
 
-makes_fits : (a : Action) (q k : ℕ) (l : Label) → makes a k ≡ true → Fits a q l
-makes_fits (A.New c) q k l h = tt
-makes_fits _ q k l h = absurd (cc)
+makes_fits : (a : Action) (q m : ℕ) (k : NameId) → makes a k.0 ≡ true → Fits a q (L.New q m k)
+makes_fits (A.New c) q m k h = (m, k, sym (equal c k.0 h), refl)
+makes_fits _ q m k h = absurd (cc)
 
 calls_fits : (a : Action) (q b m : ℕ) (args : List Value) (l : Label) → calls a b m args ≡ true → Fits a q l
 calls_fits (A.Send r n values) q b m args l h = tt
@@ -103,7 +104,7 @@ module _ (p : ProgramTree) (c d : Configuration) where
   agent_fits (L.New o n k) x t r =
       let a = given_by (running c o) _ d t in
       let b = required (makes (action p o a.0) k.0 && is_none (object_of c n)) _ d a.2 in
-      subst (λ z. Fits (action p o z) o (L.New o n k)) (same_object o x a.0 r a.1) (makes_fits (action p o a.0) o k.0 (L.New o n k) (first (makes (action p o a.0) k.0) (is_none (object_of c n)) b.0))
+      subst (λ z. Fits (action p o z) o (L.New o n k)) (same_object o x a.0 r a.1) (makes_fits (action p o a.0) o n k (first (makes (action p o a.0) k.0) (is_none (object_of c n)) b.0))
   agent_fits (L.Answer b o m args) x t r =
       let a = given_by (running c o) _ d t in
       let y = given_by (running c b) _ d a.2 in
@@ -193,3 +194,7 @@ returns_own _ q o w h l f = absurd (cc)
 pub waits_own : (a : Action) (q b : ℕ) → waits_on a b ≡ true → (l : Label) → Fits a q l → (v : Value) × (l ≡ L.Return b q v)
 waits_own (A.Waits r m) q b h l f = (f.0, f.1 ∙ ap (λ z. L.Return z q f.0) (equal r b h))
 waits_own _ q b h l f = absurd (cc)
+
+pub makes_own : (a : Action) (q : ℕ) (k : NameId) → makes a k.0 ≡ true → (l : Label) → Fits a q l → (m : ℕ) × (l ≡ L.New q m k)
+makes_own (A.New c) q k h l f = (f.0, f.3 ∙ ap (λ (z : ℕ). L.New q f.0 (record { 0 = z })) (f.2 ∙ equal c k.0 h))
+makes_own _ q k h l f = absurd (cc)

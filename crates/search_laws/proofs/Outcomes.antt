@@ -40,7 +40,7 @@ names_any n (L.Write o item) t = refl
 names_any n (L.Pick o i) t = refl
 names_any n (L.Fault o e) t = refl
 
-no_choice : (s : Option ℕ) (l : Label) → needs_no_order s l ≡ true → needs_no_choice l ≡ true
+pub no_choice : (s : Option ℕ) (l : Label) → needs_no_order s l ≡ true → needs_no_choice l ≡ true
 no_choice s (L.Local o) h = refl
 no_choice s (L.Return b o v) h = refl
 no_choice s (L.Send o b m args) h = refl

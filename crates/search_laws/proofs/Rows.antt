@@ -21,7 +21,7 @@ use Rattle.reachability.specs.Search.{IsReached, IsStuck, IsFaulty, WaitsAt, IsI
 use Rattle.search_laws.specs.Renamed.{IsNameless}
 use Rattle.reachability.specs.Labels.{labels_to_try}
 use Rattle.search_laws.specs.Outcomes.{Passed}
-use Rattle.search_laws.specs.Tried.{Follows, Stays, Every, IsTried, states_only, state_of}
+use Rattle.search_laws.specs.Tried.{Follows, Stays, Every, ByBirth, IsTried, states_only, state_of}
 use Rattle.search_laws.specs.PutOff.{IsWholeByChoices}
 use Rattle.search_laws.specs.Dead.{IsDead, HasDead}
 use Rattle.search_laws.specs.Caught.{is_caught}
@@ -164,6 +164,23 @@ is_tried = record {
   );
 }
 
+nameless : IsNameless program
+nameless f = refl
+
+-- the same list, of which the first entry was tried by its creation alone
+tried_by_birth : IsTried program states_only kept
+tried_by_birth = record {
+  begins = is_tried.begins;
+  tried = (
+    (refl, refl),
+    ByBirth 0 (name 0) (record { next = reached program (creates ∷ []); step = refl; to = second; follows = follows_by program states_only _ second asks refl refl; is_in = inr (inl (refl, refl, refl)) }),
+    is_tried.tried.2,
+  );
+}
+
+whole_by_birth : IsWholeByChoices program states
+whole_by_birth = whole_by_trying program kept nameless tried_by_birth
+
 none_stuck : (n : ℕ) (c : Configuration) → IsIn n c states → ¬ (IsStuck program c)
 none_stuck n c (inl i) s = absurd (let z = ap (λ d. transition program d creates) i.1 ∙ s.at_end creates in cc)
 none_stuck n c (inr (inl i)) s = absurd (let z = ap (λ d. transition program d answers) i.1 ∙ s.at_end answers in cc)
@@ -175,9 +192,6 @@ none_faulty n c (inl i) f = nobody_faulty first (refl, tt) (subst IsFaulty (sym 
 none_faulty n c (inr (inl i)) f = nobody_faulty second (refl, (refl, tt)) (subst IsFaulty (sym i.1) f)
 none_faulty n c (inr (inr (inl i))) f = nobody_faulty third (refl, (refl, tt)) (subst IsFaulty (sym i.1) f)
 none_faulty n c (inr (inr (inr i))) f = absurd i
-
-nameless : IsNameless program
-nameless f = refl
 
 whole : IsWholeByChoices program states
 whole = whole_by_trying program kept nameless is_tried

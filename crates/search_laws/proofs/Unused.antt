@@ -13,7 +13,8 @@ use Rattle.search_laws.proofs.RenamedRun.{run_renamed}
 use Rattle.search_laws.proofs.NamesInOrder.{swap_first, swapped, same_all, arranged}
 use Rattle.search_laws.proofs.SearchCompleteness.{lone, below_start, lone_renamed}
 use Rattle.search_laws.proofs.ChoiceFreeRuns.{start_sorted}
-use Rattle.search_laws.proofs.PutOff.{all_still, tells}
+use Rattle.search_laws.proofs.Known.{known_start}
+use Rattle.search_laws.proofs.PutOff.{all_still, known_settled, tells}
 
 free_renamed : (free : Label → Bool) → IsOfNoNames free → (f : ℕ → ℕ) (ls : List Label) → all_free free (map (renamed_label f) ls) ≡ all_free free ls
 free_renamed free none f [] = refl
@@ -34,7 +35,7 @@ module _ (p : ProgramTree) (free : Label → Bool) where
       by true u v f h = f h
       by false u v f h = refl
 
-  module _ (es : List (ℕ × Configuration)) (whole : IsWholeAndFree p free es) where
+  module _ (less : IsNameless p) (none : IsOfNoNames free) (es : List (ℕ × Configuration)) (whole : IsWholeAndFree p free es) where
     in_turn : (first d : Configuration) (ls : List Label) → start p 0 ≡ Some first → in_order 1 ls ≡ true → run p first ls ≡ Some d → all_free free ls ≡ true
     in_turn first d ls starts orders leads = by (all_free free ls) refl
       where
@@ -43,8 +44,9 @@ module _ (p : ProgramTree) (free : Label → Bool) where
         by false e =
             let b = whole.begins first starts in
             let w = all_still p free Uses left_out behind (λ t ks x y f i h. h) 1 first d b.0 ls (start_sorted p first starts) b.1 orders leads in
-            absurd (tells p free Uses left_out behind (λ t ks x y f i h. h) es whole.closed ⊥ (λ n c i h. let z : true ≡ false = h in cc)
-            (length w.labels) 1 b.0 w.to w.labels (omega arith) b.2 w.orders w.leads (w.holds e))
+            let known = known_settled p free less 1 first b.0 (known_start p less first starts) b.1 in
+            absurd (tells p free Uses left_out behind (λ t ks x y f i h. h) less 0 (λ g ks x y keeps same h. free_renamed free none g.to ks ∙ h) es whole.closed ⊥ (λ n c i h. let z : true ≡ false = h in cc)
+            (length w.labels) 1 b.0 w.to w.labels (omega arith) (omega arith) known b.2 w.orders w.leads (w.holds e))
 
 pub no_run_uses : (p : ProgramTree) (free : Label → Bool) (es : List (ℕ × Configuration)) → IsNameless p → IsOfNoNames free → IsWholeAndFree p free es
     → (root : ℕ) (c d : Configuration) (ls : List Label) → start p root ≡ Some c → run p c ls ≡ Some d → all_free free ls ≡ true
@@ -64,7 +66,7 @@ no_run_uses p free es less none whole root c d ls starts leads = by (last_class 
         there g orders starts u i y j Neither = absurd (cc)
         there g orders starts u i y j (Both {c = b} {d = e} same) =
             sym (free_renamed free none g.to ls)
-            ∙ in_turn p free es whole (lone 0 x) e (map (renamed_label g.to) ls) starts orders (ap (λ q. run q (lone 0 x) (map (renamed_label g.to) ls)) (sym (less g.to)) ∙ j)
+            ∙ in_turn p free less none es whole (lone 0 x) e (map (renamed_label g.to) ls) starts orders (ap (λ q. run q (lone 0 x) (map (renamed_label g.to) ls)) (sym (less g.to)) ∙ j)
 
     by : (o : Option ClassTree) → last_class p ≡ o → (o >>= λ k. Some (lone root k)) ≡ Some c → all_free free ls ≡ true
     by None i s = absurd (cc)

@@ -21,3 +21,4 @@ pub mod TriedWatched
 pub mod Unused
 pub mod CanEnd
 pub mod TriedBounded
+pub mod Births

@@ -1,6 +1,7 @@
 -- Lists that hold with each configuration what was written on the way to it, and what such a list needs so that the end
 -- of no run is missing.
-use Rattle.std.specs.Prelude.{◌≡◌, ◌⊎◌, ◌==◌, ℕ, List, [], ◌∷◌, ◌++◌, map, Option, Some, None, Bool, true, false}
+use Rattle.std.specs.Prelude.{◌≡◌, ◌⊎◌, ◌==◌, ℕ, suc, List, [], ◌∷◌, ◌++◌, map, Option, Some, None, Bool, true, false}
+use Rattle.run_types.specs.declared.types.NameId.{NameId}
 use Rattle.run_types.specs.declared.types.Item.{Item}
 use Rattle.run_types.specs.declared.types.Label.{Label}
 use Rattle.run_types.specs.declared.types.Label.TheVariants as L
@@ -72,13 +73,15 @@ abbrev pub LeadsWith : ProgramTree → List Passed → ℕ → List Item → Con
 LeadsWith p es n w c l = (d : Configuration) → names_next n l ≡ true → transition p c l ≡ Some d
     → (e : Configuration) × (v : List Item) × SettlesWith p None d v e × IsPassed (after n l) (w ++ (items_of l ++ v)) e es
 
--- all labels lead into the list, or all labels of a stubborn set that write nothing do
+-- all labels lead into the list, or all labels of a stubborn set that write nothing do, or a creation that one object is
+-- about to make does
 pub data IsEnoughWith (p : ProgramTree) (es : List Passed) (n : ℕ) (w : List Item) (c : Configuration) : Type 0 where
   AllOfThem : ((l : Label) → LeadsWith p es n w c l) → IsEnoughWith p es n w c
   Chosen : (chosen : Label → Bool) → IsStubborn p n c chosen → ((l : Label) → chosen l ≡ true → items_of l ≡ []) → ((l : Label) → chosen l ≡ true → LeadsWith p es n w c l) → IsEnoughWith p es n w c
+  Created : (o : ℕ) (k : NameId) (d e : Configuration) (v : List Item) → transition p c (L.New o n k) ≡ Some d → SettlesWith p None d v e → IsPassed (suc n) (w ++ v) e es → IsEnoughWith p es n w c
 
 -- The start leads into the list, after some such transitions. In each configuration of the list, all labels lead into
--- the list, or all labels of a stubborn set that write nothing do.
+-- the list, or all labels of a stubborn set that write nothing do, or a creation does.
 pub record IsWholeWithChoices (p : ProgramTree) (es : List Passed) : Type 0 where
   pub in_order : (n : ℕ) (w : List Item) (c : Configuration) → IsPassed n w c es → IsInOrder c
   pub begins : (c : Configuration) → start p 0 ≡ Some c → (e : Configuration) × (v : List Item) × SettlesWith p None c v e × IsPassed 1 v e es

@@ -1,5 +1,6 @@
 -- Lists of a search for ends with stubborn sets, and which labels of one object are such a set.
-use Rattle.std.specs.Prelude.{◌==◌, ◌||◌, ◌<◌, ◌≤◌, if◌then◌else◌, map, is_some, None, ◌≡◌, ℕ, List, Some, Bool, true, false}
+use Rattle.std.specs.Prelude.{◌==◌, ◌||◌, ◌<◌, ◌≤◌, if◌then◌else◌, map, is_some, None, ◌≡◌, ℕ, suc, List, Some, Bool, true, false}
+use Rattle.run_types.specs.declared.types.NameId.{NameId}
 use Rattle.run_types.specs.declared.types.Label.{Label}
 use Rattle.run_types.specs.declared.types.Label.TheVariants as L
 use Rattle.pool_syntax.specs.Terms.{ProgramTree}
@@ -16,13 +17,14 @@ use Rattle.search_laws.specs.ClosedLists.{Settles}
 abbrev pub LeadsIn : ProgramTree → List (ℕ × Configuration) → ℕ → Configuration → Label → Type 0
 LeadsIn p es n c l = (d : Configuration) → names_next n l ≡ true → transition p c l ≡ Some d → (e : Configuration) × Settles p d e × IsIn (after n l) e es
 
--- all labels lead into the list, or all labels of a stubborn set do
+-- all labels lead into the list, or all labels of a stubborn set do, or a creation that one object is about to make does
 pub data IsEnough (p : ProgramTree) (es : List (ℕ × Configuration)) (n : ℕ) (c : Configuration) : Type 0 where
   All : ((l : Label) → LeadsIn p es n c l) → IsEnough p es n c
   Some_of_them : (chosen : Label → Bool) → IsStubborn p n c chosen → ((l : Label) → chosen l ≡ true → LeadsIn p es n c l) → IsEnough p es n c
+  Created : (o : ℕ) (k : NameId) (d e : Configuration) → transition p c (L.New o n k) ≡ Some d → Settles p d e → IsIn (suc n) e es → IsEnough p es n c
 
 -- The start leads into the list, after some transitions that need no choice. In each configuration of the list, all
--- labels lead into the list, or all labels of a stubborn set do.
+-- labels lead into the list, or all labels of a stubborn set do, or a creation does.
 pub record IsWholeForEnds (p : ProgramTree) (es : List (ℕ × Configuration)) : Type 0 where
   pub in_order : (n : ℕ) (c : Configuration) → IsIn n c es → IsInOrder c
   pub begins : (c : Configuration) → start p 0 ≡ Some c → (e : Configuration) × Settles p c e × IsIn 1 e es

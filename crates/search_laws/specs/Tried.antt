@@ -1,9 +1,11 @@
 -- Lists of which the labels were tried, for a search that keeps configurations alone, or also what was written. Of an
--- entry all labels were tried, or those of one object that are enough.
+-- entry all labels were tried, or those of one object that are enough, or one creation.
 use Rattle.std.specs.Prelude.{◌≡◌, ◌⊎◌, ◌<◌, ℕ, suc, List, [], ◌∷◌, ◌++◌, Some, None, Bool, true}
 use Rattle.std.specs.List.{filter, slice_get}
 use Rattle.run_types.specs.declared.types.Item.{Item}
+use Rattle.run_types.specs.declared.types.NameId.{NameId}
 use Rattle.run_types.specs.declared.types.Label.{Label}
+use Rattle.run_types.specs.declared.types.Label.TheVariants as L
 use Rattle.pool_syntax.specs.Terms.{ProgramTree}
 use Rattle.pool_relation.specs.Configuration.{Configuration}
 use Rattle.pool_relation.specs.Transition.{transition, start}
@@ -63,11 +65,12 @@ module _ (p : ProgramTree) (k : Course) where
     pub there : slice_get es place ≡ Some (record { next = after n l; items = w ++ k.keeps l; configuration = to })
 
   -- Each label to try of the entry at the place i leads into the list or is impossible. Or each of those of an awaited
-  -- object does, and one of them leads to a later entry.
+  -- object does, and one of them leads to a later entry. Or one creation leads into the list.
   pub data IsExpanded (es : List Passed) (i n : ℕ) (w : List Item) (c : Configuration) : Type 0 where
     Every : AllLeadInto es n w c (labels_to_try p n c) → IsExpanded es i n w c
     Those : (b : ℕ) (awaited : IsAwaited p n b c) → AllLeadInto es n w c (filter (is_served b) (labels_to_try p n c)) → (place : ℕ) → i < place → LeadsAt es n w c awaited.one place
         → IsExpanded es i n w c
+    ByBirth : (o : ℕ) (class : NameId) → LeadsInto es n w c (L.New o n class) → IsExpanded es i n w c
 
   -- each configuration of the second list, of which the first has the place i, is in order and was expanded into the
   -- first list

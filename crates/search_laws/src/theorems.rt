@@ -2,7 +2,9 @@
 ghost use Rattle.std.specs.Prelude.{◌≡◌, ◌≤◌, ◌++◌, ℕ, List, Option, None, Some, Bool, length, map, true, false};
 ghost use Rattle.pool_syntax.specs.declared.tree.Program.{Program};
 ghost use Rattle.run_types.specs.declared.types.Item.{Item};
+ghost use Rattle.run_types.specs.declared.types.NameId.{NameId};
 ghost use Rattle.run_types.specs.declared.types.Label.{Label};
+ghost use Rattle.run_types.specs.declared.types.Label.TheVariants as L;
 ghost use Rattle.pool_syntax.specs.Terms.{ProgramTree};
 ghost use Rattle.pool_syntax.specs.TreeOf.{program_of};
 ghost use Rattle.run_types.specs.Message.{Message};
@@ -12,12 +14,13 @@ ghost use Rattle.pool_relation.specs.Transition.{transition, run, start};
 ghost use Rattle.search_laws.specs.Renamed.{Renaming, renamed_item, renamed_program, renamed_label, IsRenamed, IsNameless};
 ghost use Rattle.reachability.specs.Labels.{IsAmong, labels_to_try};
 ghost use Rattle.search_laws.specs.Tried.{IsTried, states_only, with_writes, state_of};
-ghost use Rattle.reachability.specs.Search.{WaitsAt, IsReached, IsAtEnd, IsStuck, IsUnfinished, IsFaulty, IsIn, names_next};
+ghost use Rattle.reachability.specs.Search.{WaitsAt, IsReached, IsAtEnd, IsStuck, IsUnfinished, IsFaulty, IsIn, names_next, in_order};
 ghost use Rattle.reachability.specs.Outcomes.{EndsWith, IsOneOf, all_name_none, written};
 ghost use Rattle.search_laws.specs.ClosedLists.{IsClosedSearch, Settles, IsClosedAfterSettling};
 ghost use Rattle.search_laws.specs.Dead.{IsDead, HasDead, CanGoOn};
 ghost use Rattle.search_laws.specs.ClosedBeside.{beside, IsClosedBeside, IsReachedInOrder};
 ghost use Rattle.search_laws.specs.Stubborn.{IsStubborn, IsAwaited, is_served, IsWholeForEnds};
+ghost use Rattle.search_laws.specs.Births.{Brought};
 ghost use Rattle.search_laws.specs.PutOff.{any, IsClosedByChoices, IsWholeByChoices};
 ghost use Rattle.search_laws.specs.Caught.{IsCaught, is_caught};
 ghost use Rattle.search_laws.specs.Outcomes.{Passed, IsWholeWith, IsWholeWithChoices, IsKeptEnd, EndsAlike, HasAllEnds};
@@ -85,8 +88,8 @@ pub fn no_other_label_is_possible()
     ensures { (p : ProgramTree) (c d : Configuration) (n : ℕ) (l : Label) → names_next n l ≡ true → transition p c l ≡ Some d → IsAmong l (labels_to_try p n c) }
 {}
 
-/// A search may try the labels of one awaited object alone, where one of them leads to a later entry. The list of such a
-/// search puts off no label for ever. If it also has what was written, it misses no outcome.
+/// A search may try the labels of one awaited object alone, where one of them leads to a later entry, or a creation alone.
+/// The list of such a search puts off no label for ever. If it also has what was written, it misses no outcome.
 pub fn a_tried_list_is_whole()
     ensures states { (p : ProgramTree) (es : List Passed) → IsNameless p → IsTried p states_only es → IsWholeByChoices p (map state_of es) }
     ensures outcomes { (p : ProgramTree) (es : List Passed) → IsNameless p → IsTried p with_writes es → IsWholeWithChoices p es }
@@ -137,9 +140,10 @@ pub fn a_list_tells_the_dead()
         → IsReachedInOrder p n c → WaitsAt p c o → IsDead p c o }
 {}
 
-/// A search for ends may try only the labels of a stubborn set. If no configuration of its list is stuck or unfinished,
-/// no run leads to such a configuration. In a stubborn set one label stays possible, whatever other labels come first.
-/// Each label of it that is possible after other labels could also come before them.
+/// A search for ends may try only the labels of a stubborn set, or a creation alone that an object is about to make. If
+/// no configuration of its list is stuck or unfinished, no run leads to such a configuration. In a stubborn set one
+/// label stays possible, whatever other labels come first. Each label of it that is possible after other labels could
+/// also come before them.
 pub fn a_choice_of_labels_shows_every_end()
     ensures stuck { (p : ProgramTree) (es : List (ℕ × Configuration)) (d : Configuration) → IsNameless p → IsWholeForEnds p es
         → ((n : ℕ) (c : Configuration) → IsIn n c es → ¬ (IsStuck p c)) → IsReached p d → ¬ (IsStuck p d) }
@@ -154,8 +158,15 @@ pub fn the_labels_of_one_are_enough()
     ensures { (p : ProgramTree) (n b : ℕ) (c : Configuration) → IsNameless p → (h : IsAwaited p n b c) → (s : IsStubborn p n c (is_served b)) × (s.one ≡ h.one) }
 {}
 
-/// A search that keeps what was written may try only the labels of a stubborn set, if they write nothing. The
-/// conclusions are those of `each_end_wrote_one_of_these`.
+/// A creation that an object is about to make can come first in each run, under other names. The names of the objects
+/// that were there stay. If the object does not make it in the run, it is possible behind the run.
+pub fn a_creation_can_come_first()
+    ensures { (p : ProgramTree) (n o : ℕ) (k : NameId) (c d e : Configuration) (ls : List Label) → IsNameless p → IsReachedInOrder p n c → transition p c (L.New o n k) ≡ Some e
+        → in_order n ls ≡ true → run p c ls ≡ Some d → Brought p n o k d e ls }
+{}
+
+/// A search that keeps what was written may try only the labels of a stubborn set, if they write nothing, or a creation
+/// alone. The conclusions are those of `each_end_wrote_one_of_these`.
 pub fn a_choice_of_labels_shows_all_that_is_written()
     ensures kept { (p : ProgramTree) (es : List Passed) (w : List Item) (d : Configuration) → IsNameless p → IsWholeWithChoices p es → EndsWith p w d → IsKeptEnd p es w d }
     ensures nothing_else { (p : ProgramTree) (es : List Passed) (vs : List (List Item)) → IsNameless p → IsWholeWithChoices p es → HasAllEnds p es vs
@@ -166,6 +177,7 @@ pub fn a_choice_of_labels_shows_all_that_is_written()
 
 /// A search with stubborn sets also finds faulty configurations and dead objects, if it puts off no label for ever.
 /// From each configuration of its list, labels that were tried lead to a configuration in which all labels were tried.
+/// It may also try a creation alone.
 /// The list then serves a search for ends too. If no configuration of it is faulty, no run leads to a faulty one. If
 /// each object that waits in it can go on, no reached configuration has a dead object. If no label that was tried
 /// leaves a part of it or changes an object in that part, and the object waits in a reached configuration of the part,

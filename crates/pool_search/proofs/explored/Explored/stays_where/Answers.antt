@@ -1,39 +1,30 @@
-use Rattle.std.proofs.Common.{◌≡◌, ◌<◌, ◌∙◌, refl, ap, length, subst, sym, None, Ok, Some, Bool, true, false, not, slice_get}
-use Rattle.std.specs.List.{filter}
-use Rattle.run_types.specs.Tables.{Each}
+use Rattle.std.proofs.Common.{◌≡◌, ◌<◌, ◌∙◌, ap, length, subst, sym, Some, Ok, slice_get}
 use Rattle.pool_syntax.specs.Terms.{ProgramTree}
+use Rattle.reachability.specs.Labels.{labels_to_try}
 use Rattle.pool_search.specs.Entries.{entries, searched}
-use Rattle.pool_search.specs.Leads.{IsBeside}
-use Rattle.pool_search.specs.Progress.{Entries}
-use Rattle.pool_search.specs.Trials.{is_asked, is_tried}
-use Rattle.pool_search.proofs.WaiterLaws.{stays_by_all}
+use Rattle.pool_search.specs.Leads.{StaysIn}
+use Rattle.pool_search.specs.Progress.{AllInOrder, Entries}
 use Rattle.pool_search.proofs.explored.Explored.stays_where.Goals as goal
 
-twice : (b : Bool) → not (not b) ≡ true → b ≡ true
-twice true h = refl
-twice false h = absurd (let z : false ≡ true = h in cc)
+pub stays_by_trials-requires-clause-exists : goal.stays_by_trials-requires-clause-exists
+stays_by_trials-requires-clause-exists c = subst (λ (xs : Entries). c.args.at < length xs) (sym c.stays_by_birth.ensures.same) c.requires.exists
 
-pub are_beside-requires : goal.are_beside-requires
-are_beside-requires c = subst (λ (xs : Entries). c.args.at < length xs) (sym c.stays_by_choice.ensures.same) c.requires.exists
+pub stays_by_trials-requires-clause-in_order : goal.stays_by_trials-requires-clause-in_order
+stays_by_trials-requires-clause-in_order c = subst AllInOrder (sym c.stays_by_birth.ensures.same) c.requires.in_order
+
+pub stays_by_trials-requires-clause-labels : goal.stays_by_trials-requires-clause-labels
+stays_by_trials-requires-clause-labels c = λ e g.
+    let there : slice_get (entries c.args.self.now) c.args.at ≡ Some e = subst (λ (xs : Entries). slice_get xs c.args.at ≡ Some e) c.stays_by_birth.ensures.same g in
+    c.requires.labels e there ∙ ap (λ (q : ProgramTree). labels_to_try q e.next e.configuration) (sym c.stays_by_birth.ensures.program)
 
 pub returns-in-Ok-true-clause-stays : goal.returns-in-Ok-true-clause-stays
 returns-in-Ok-true-clause-stays c = λ yes e g. c.in-Ok-true.ensures.stays (ap Ok c.in-Ok-true.field-0-test) e g
 
-pub returns-in-Ok-clause-stays : goal.returns-in-Ok-clause-stays
-returns-in-Ok-clause-stays c = λ told e g.
-    let p = searched c.args.self.now in
-    let es = entries c.args.self.now in
+pub returns-in-Ok-false-clause-stays : goal.returns-in-Ok-false-clause-stays
+returns-in-Ok-false-clause-stays c = λ told e g.
     let ws = c.args.suspect.now.waiters.now.list.items in
     let o = c.args.suspect.now.object in
-    let at = c.args.at in
-    let asked = filter (is_asked None) in
-    let middle = c.stays_by_choice.new.self in
-    let trial = c.in-Ok.trial in
-    let yes : not c.is_over.result ≡ true = cc in
-    let tried : is_tried trial ≡ true = twice (is_tried trial) (ap not (sym c.is_over.ensures) ∙ yes) in
-    let there : slice_get (entries middle) at ≡ Some e = ap (λ (xs : Entries). slice_get xs at) c.stays_by_choice.ensures.same ∙ g in
-    let by_now : Each (IsBeside p es ws o e.next e.configuration) (asked c.args.labels.now) =
-    subst (λ (xs : Entries). Each (IsBeside p xs ws o e.next e.configuration) (asked c.args.labels.now)) c.stays_by_choice.ensures.same
-    (subst (λ (q : ProgramTree). Each (IsBeside q (entries middle) ws o e.next e.configuration) (asked c.args.labels.now)) c.stays_by_choice.ensures.program (c.in-Ok.ensures.tried tried e there))
-    in
-    stays_by_all p es ws o at e.next e.configuration e (e.items, g) g (subst (λ ls. Each (IsBeside p es ws o e.next e.configuration) (asked ls)) (c.requires.labels e g) by_now)
+    let middle = c.stays_by_birth.new.self in
+    let there : slice_get (entries middle) c.args.at ≡ Some e = ap (λ (xs : Entries). slice_get xs c.args.at) c.stays_by_birth.ensures.same ∙ g in
+    subst (λ (xs : Entries). StaysIn (searched c.args.self.now) xs ws o c.args.at e) c.stays_by_birth.ensures.same
+    (subst (λ (q : ProgramTree). StaysIn q (entries middle) ws o c.args.at e) c.stays_by_birth.ensures.program (c.stays_by_trials.ensures.stays told e there))
