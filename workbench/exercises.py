@@ -142,7 +142,7 @@ def verdict(job, check, answer, done):
     if done.status == 0:
         return None
     if done.status == 3:
-        return {"says": f"Undecided: the search ended after {last[-1]} configurations. Your program may make many more steps than the exercise needs."}
+        return {"says": f"Undecided. {questions.cause(done.lines)} Your program may make many more steps than the exercise needs."}
     if done.status != 1:
         return runs.trouble(done)
     wrote = next((line.split(" ", 2) for line in done.lines if line.startswith("wrote ")), None)

@@ -1,5 +1,5 @@
 -- The outcomes that a search has found so far.
-use Rattle.std.specs.Prelude.{◌≡◌, ◌⊎◌, List, [], ◌∷◌}
+use Rattle.std.specs.Prelude.{◌≡◌, ◌⊎◌, ℕ, List, [], ◌∷◌}
 use Rattle.std.specs.Global.{Global}
 use Rattle.std.specs.declared.vec.Vec.{Vec}
 use Rattle.run_types.specs.declared.types.Item.{Item}
@@ -10,6 +10,7 @@ use Rattle.pool_search.specs.declared.outcomes.EndKind.{EndKind}
 use Rattle.pool_search.specs.declared.outcomes.Outcome.{Outcome}
 use Rattle.pool_search.specs.declared.outcomes.OutcomeRun.{OutcomeRun}
 use Rattle.pool_search.specs.declared.outcomes.OutcomeRun.TheVariants as R
+use Rattle.pool_search.specs.CutOff.{IsCutOff}
 use Rattle.pool_search.specs.OutcomeTargets.{HasOutcome, IsRunInOrder}
 
 abbrev pub outcome : EndKind → Vec Item Global → Outcome
@@ -28,4 +29,10 @@ IsNoted p os e = IsAtEnd p e.configuration → HasOutcome p os e.items e.configu
 abbrev pub IsShownRun : ProgramTree → OutcomeRun → Type 0
 IsShownRun p (R.Shown o ls) = IsRunInOrder p o ls
 IsShownRun p (R.Finite k) = ⊥
-IsShownRun p (R.Over k) = ⊥
+IsShownRun p (R.Over k why) = ⊥
+
+-- no run is known, after a search with this bound
+abbrev pub IsNoRun : ℕ → OutcomeRun → Type 0
+IsNoRun most (R.Shown o ls) = ⊥
+IsNoRun most (R.Finite k) = ⊥
+IsNoRun most (R.Over k why) = IsCutOff most k why

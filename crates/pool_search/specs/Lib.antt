@@ -1,6 +1,7 @@
 -- Believed: what a top call's contract reaches.
 pub mod SearchTargets
 pub mod OutcomeTargets
+pub mod CutOff
 -- Internal: what it does not.
 pub mod SearchAnswers
 pub mod Progress

@@ -12,15 +12,17 @@ ghost use Rattle.reachability.specs.Labels.{labels_to_try};
 ghost use Rattle.search_laws.specs.Outcomes.{Passed};
 ghost use Rattle.search_laws.specs.Tried.{AllLeadInto, IsExpanded, IsLabelTried, LeadsAt, states_only};
 ghost use Rattle.visited_set.specs.Courses.{course_of};
+ghost use Rattle.pool_search.specs.CutOff.{IsCutOff};
 ghost use Rattle.pool_search.specs.Entries.{IsEntryAt, IsPassedOver, entries, lists, searched};
 ghost use Rattle.pool_search.specs.Trials.{CanMove, is_asked, is_tried, OneLeadsOn, SettlesAt};
 ghost use Rattle.visited_set.specs.VisitedConfigurations.{entry};
 ghost use Rattle.pool_search.specs.Progress.{AllInOrder, AllReached, Grows, IsReachedWith, IsSearchedTo, HasSearched};
 
+use crate::causes::{fullest, member};
 use crate::choices::{Trial, birth_place, is_again, is_asked, later, serves_some};
 use crate::classifier::{Classification, judge};
 use crate::progress::Progress;
-use crate::queries::Query;
+use crate::queries::{Cause, Member, Query};
 use crate::scope::Scope;
 use crate::settling::settle;
 use pool_semantics::{Plain, Refuse};
@@ -42,6 +44,8 @@ pub struct Origin {
 pub struct Explored<'a> {
     pub kept: VisitedSet<'a>,
     pub origins: Vec<Origin>,
+    /// The object that made the last transition where settling met its bound.
+    pub endless: Option<Member>,
 }
 
 /// The result of a visit of one entry.
@@ -91,6 +95,7 @@ impl<'a> Explored<'a> {
         Explored {
             kept: VisitedSet::empty(alloc, program),
             origins: Vec::new(alloc),
+            endless: None,
         }
     }
 
@@ -99,6 +104,21 @@ impl<'a> Explored<'a> {
         ensures { result ≡ min (length (entries self.now)) most }
     {
         self.kept.len().min(most as usize) as u32
+    }
+
+    /// Why the search ended, if it does not know the answer. An error means out of memory.
+    pub fn cause(&self, most: u32) -> Result<Cause, AllocError>
+        ensures { IfOk result (λ why. IsCutOff most (min (length (entries self.now)) most) why) }
+    {
+        if let Some(last) = self.endless {
+            return Ok(Cause::Transitions(last));
+        }
+        let beyond = most as usize;
+        if self.kept.len() <= beyond {
+            return Ok(Cause::Limit);
+        }
+        let plain = self.kept.configuration(beyond)?;
+        Ok(Cause::Bound(fullest(plain.state())?))
     }
 
     /// Adds a configuration with the number of what was written, unless the set has it. Returns the number of its
@@ -166,8 +186,11 @@ impl<'a> Explored<'a> {
         ensures leads { IfOk result (λ o. IfSome o (λ i. SettlesAt (searched self.old) (course_of scope.keeps) (entries self.new) next (get_or (lists self.old) written []) (configuration_of plain.old) i)) }
     {
         match settle(plain, scope.keeps) {
-            Ok(true) => self.keep(plain, next, written, origin, scope),
-            Ok(false) => Ok(None),
+            Ok(None) => self.keep(plain, next, written, origin, scope),
+            Ok(Some(last)) => {
+                self.endless = member(plain.state(), last);
+                Ok(None)
+            }
             Err(_) => Err(AllocError),
         }
     }

@@ -3,6 +3,7 @@
 //! Does not know: files, sinks and the text of answers.
 #![tactic(auto)]
 
+mod causes;
 mod changes;
 mod choices;
 mod classifier;
@@ -20,5 +21,5 @@ mod settling;
 
 pub use outcomes::{EndKind, Outcome, OutcomeRun, Outcomes, all_outcomes, outcome_run};
 pub use progress::Progress;
-pub use queries::{Query, SearchResult, Target};
+pub use queries::{Cause, Mailbox, Member, Query, SearchResult, Target};
 pub use searching::search;

@@ -9,7 +9,9 @@ ghost use Rattle.search_laws.specs.Tried.{with_writes};
 ghost use Rattle.reachability.specs.Outcomes.{written};
 ghost use Rattle.visited_set.specs.Courses.{course_of};
 ghost use Rattle.pool_search.specs.Entries.{entries, lists, searched};
-ghost use Rattle.pool_search.specs.FoundOutcomes.{IsNoted, IsShownRun};
+ghost use Rattle.pool_search.specs.FoundOutcomes.{IsNoRun, IsNoted, IsShownRun};
+ghost use Rattle.pool_search.specs.CutOff.{IsCutOff};
+ghost use Rattle.pool_search.specs.declared.queries.Cause.{Cause as OneCause};
 ghost use Rattle.pool_search.specs.OutcomeTargets.{IsEndOf, IsShown, IsRunInOrder, HasAllOutcomes};
 ghost use Rattle.pool_search.specs.Progress.{AllInOrder, AllReached, HasSearched, IsSearchedTo};
 ghost use Rattle.pool_search.specs.declared.outcomes.Outcome.{Outcome as OneOutcome};
@@ -18,6 +20,7 @@ use crate::choices::Trial;
 use crate::ends::{Ends, kind_of, written_by};
 use crate::explored::Explored;
 use crate::progress::Progress;
+use crate::queries::Cause;
 use crate::retracing::{retrace_in_order, way_to};
 use crate::scope::Scope;
 use crate::searching::begin;
@@ -57,6 +60,8 @@ pub struct Outcomes {
     pub whole: bool,
     /// The number of configurations that the search kept, but at most `most`.
     pub kept: u32,
+    /// Why the list may not be complete, if it is not known to be.
+    pub cause: Cause,
 }
 
 /// A run with one of the outcomes, or the end of the search if there is no such outcome.
@@ -67,8 +72,8 @@ pub enum OutcomeRun {
     Shown { outcome: Outcome, labels: LabelList },
     /// The list of outcomes is complete, and this one is not in it. The number of configurations that the search kept.
     Finite(u32),
-    /// The search met a bound. The number of configurations that it kept, but at most `most`.
-    Over(u32),
+    /// Unknown. The number of configurations that the search kept, but at most `most`, and why it ended.
+    Over { kept: u32, cause: Cause },
 }
 
 /// What a search for outcomes keeps, and how much.
@@ -195,6 +200,7 @@ fn outcomes_from<'a, P: Progress>(
     ensures shown { IfOk result (λ r. Each (IsShown (program_of program.now.program.now)) r.list.items) }
     ensures all { IfOk result (λ r. r.whole ≡ true → HasAllOutcomes (program_of program.now.program.now) r.list.items) }
     ensures within { IfOk result (λ r. r.kept ≤ most) }
+    ensures cause { IfOk result (λ r. IsCutOff most r.kept r.cause) }
 {
     let mut ends = Ends::make(alloc);
     match find_all(alloc, program, explored, most, &mut ends, progress) {
@@ -202,6 +208,7 @@ fn outcomes_from<'a, P: Progress>(
             list: ends.list,
             whole,
             kept: explored.count(most),
+            cause: explored.cause(most)?,
         }),
         Err(_) => Err(AllocError),
     }
@@ -220,6 +227,7 @@ pub fn all_outcomes<P: Progress>(
     ensures shown { IfOk result (λ r. Each (IsShown (program_of program.now.program.now)) r.list.items) }
     ensures all { IfOk result (λ r. r.whole ≡ true → HasAllOutcomes (program_of program.now.program.now) r.list.items) }
     ensures within { IfOk result (λ r. r.kept ≤ most) }
+    ensures cause { IfOk result (λ r. IsCutOff most r.kept r.cause) }
 {
     let mut explored = Explored::make(alloc, program.program);
     outcomes_from(alloc, program, &mut explored, most, progress)
@@ -283,6 +291,17 @@ fn show_run(
     }
 }
 
+/// The result where no run is known. An error means out of memory.
+fn no_run(explored: &Explored<'_>, most: u32) -> Result<OutcomeRun, AllocError>
+    ensures { IfOk result (λ r. IsNoRun most r) }
+{
+    let cause = explored.cause(most)?;
+    Ok(OutcomeRun::Over {
+        kept: explored.count(most),
+        cause,
+    })
+}
+
 /// A run with the outcome at this place in the list that a search found. `whole` says whether the list is complete. An
 /// error means out of memory.
 fn run_at(
@@ -297,22 +316,22 @@ fn run_at(
     requires { whole ≡ true → HasAllOutcomes (program_of program.now.program.now) ends.now.list.items }
     ensures shown { IfOk result (λ r. (o : OneOutcome) (ls : List Label) → r ≡ OutcomeRun.Shown o ls → IsRunInOrder (program_of program.now.program.now) o ls) }
     ensures finite { IfOk result (λ r. (k : ℕ) → r ≡ OutcomeRun.Finite k → (os : List OneOutcome) × HasAllOutcomes (program_of program.now.program.now) os × (length os ≤ place)) }
-    ensures within { IfOk result (λ r. (k : ℕ) → (r ≡ OutcomeRun.Finite k) ⊎ (r ≡ OutcomeRun.Over k) → k ≤ most) }
+    ensures within { IfOk result (λ r. (k : ℕ) → r ≡ OutcomeRun.Finite k → k ≤ most) }
+    ensures over { IfOk result (λ r. (k : ℕ) (why : OneCause) → r ≡ OutcomeRun.Over k why → IsCutOff most k why) }
 {
-    let kept = explored.count(most);
     if ends.list.len() <= place as usize {
         if whole {
-            return Ok(OutcomeRun::Finite(kept));
+            return Ok(OutcomeRun::Finite(explored.count(most)));
         }
-        return Ok(OutcomeRun::Over(kept));
+        return no_run(explored, most);
     }
     let Some(at) = ends.places.as_slice().get(place as usize) else {
-        return Ok(OutcomeRun::Over(kept));
+        return no_run(explored, most);
     };
     let way = way_to(alloc, &explored.origins, *at)?;
     match show_run(alloc, program, &way) {
         Ok(Some(run)) => Ok(run),
-        Ok(None) => Ok(OutcomeRun::Over(kept)),
+        Ok(None) => no_run(explored, most),
         Err(_) => Err(AllocError),
     }
 }
@@ -332,7 +351,8 @@ fn run_from<'a, P: Progress>(
     requires lists { lists explored.old ≡ [] ∷ [] }
     ensures shown { IfOk result (λ r. (o : OneOutcome) (ls : List Label) → r ≡ OutcomeRun.Shown o ls → IsRunInOrder (program_of program.now.program.now) o ls) }
     ensures finite { IfOk result (λ r. (k : ℕ) → r ≡ OutcomeRun.Finite k → (os : List OneOutcome) × HasAllOutcomes (program_of program.now.program.now) os × (length os ≤ place)) }
-    ensures within { IfOk result (λ r. (k : ℕ) → (r ≡ OutcomeRun.Finite k) ⊎ (r ≡ OutcomeRun.Over k) → k ≤ most) }
+    ensures within { IfOk result (λ r. (k : ℕ) → r ≡ OutcomeRun.Finite k → k ≤ most) }
+    ensures over { IfOk result (λ r. (k : ℕ) (why : OneCause) → r ≡ OutcomeRun.Over k why → IsCutOff most k why) }
 {
     let mut ends = Ends::make(alloc);
     match find_all(alloc, program, explored, most, &mut ends, progress) {
@@ -352,7 +372,8 @@ pub fn outcome_run<P: Progress>(
 ) -> Result<OutcomeRun, AllocError>
     ensures shown { IfOk result (λ r. (o : OneOutcome) (ls : List Label) → r ≡ OutcomeRun.Shown o ls → IsRunInOrder (program_of program.now.program.now) o ls) }
     ensures finite { IfOk result (λ r. (k : ℕ) → r ≡ OutcomeRun.Finite k → (os : List OneOutcome) × HasAllOutcomes (program_of program.now.program.now) os × (length os ≤ place)) }
-    ensures within { IfOk result (λ r. (k : ℕ) → (r ≡ OutcomeRun.Finite k) ⊎ (r ≡ OutcomeRun.Over k) → k ≤ most) }
+    ensures within { IfOk result (λ r. (k : ℕ) → r ≡ OutcomeRun.Finite k → k ≤ most) }
+    ensures over { IfOk result (λ r. (k : ℕ) (why : OneCause) → r ≡ OutcomeRun.Over k why → IsCutOff most k why) }
 {
     let mut explored = Explored::make(alloc, program.program);
     run_from(alloc, program, &mut explored, most, place, progress)

@@ -1,5 +1,6 @@
 //! Queries of a search, and their results.
 use label_list::LabelList;
+use run_types::NameId;
 use std::alloc::Global;
 
 /// The kind of run that a search looks for.
@@ -23,6 +24,32 @@ pub struct Query {
     pub most: u32,
 }
 
+/// An object and its class.
+#[derive(Clone, Copy)]
+pub struct Member {
+    pub object: u32,
+    pub class: NameId,
+}
+
+/// An object, and the number of messages to it that were not accepted.
+#[derive(Clone, Copy)]
+pub struct Mailbox {
+    pub owner: Member,
+    pub messages: usize,
+}
+
+/// Why a search does not know the answer.
+#[derive(Clone, Copy)]
+pub enum Cause {
+    /// More configurations would be kept than the bound on their number. The fullest mailbox of the last one, if an
+    /// object has messages in it.
+    Bound(Option<Mailbox>),
+    /// 1,000,000 transitions that need no choice followed one another. The object that made the last one.
+    Transitions(Member),
+    /// Another limit of the search: no number of 32 bits is left, or a run that was found could not be repeated.
+    Limit,
+}
+
 /// The result of a search.
 #[derive(Drop)]
 pub enum SearchResult {
@@ -36,6 +63,6 @@ pub enum SearchResult {
     Fault(LabelList),
     /// There is no such run. The number of configurations that the search kept.
     Finite(u32),
-    /// Unknown, because the search met a bound. The number of configurations that it kept, but at most `most`.
-    Over(u32),
+    /// Unknown. The number of configurations that the search kept, but at most `most`, and why it ended.
+    Over { kept: u32, cause: Cause },
 }

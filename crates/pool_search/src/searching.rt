@@ -12,6 +12,9 @@ ghost use Rattle.pool_search.specs.Entries.{IsPassedOver, entries, lists, search
 ghost use Rattle.pool_search.specs.Progress.{AllInOrder, IsSearchedTo};
 ghost use Rattle.pool_search.specs.SearchTargets.{IsFinite, IsShownFault, IsWantedDead, IsWantedEnd, LeadsInOrder, wants_stuck};
 ghost use Rattle.pool_search.specs.SearchAnswers.{IsAnswer};
+ghost use Rattle.pool_search.specs.CutOff.{IsCutOff};
+ghost use Rattle.pool_search.specs.declared.queries.Cause.{Cause as OneCause};
+ghost use Rattle.pool_syntax.specs.Terms.{ProgramTree};
 ghost use Rattle.pool_search.specs.declared.queries.Query.{Query};
 
 use crate::explored::{Explored, Origin, RunEnd};
@@ -108,6 +111,17 @@ fn wants_stuck(wanted: Target) -> bool
     }
 }
 
+/// The result of a search that does not know the answer. An error means out of memory.
+fn unknown(explored: &Explored<'_>, question: &Query) -> Result<SearchResult, AllocError>
+    ensures { IfOk result (λ f. (p : ProgramTree) → IsAnswer p question.now f) }
+{
+    let cause = explored.cause(question.most)?;
+    Ok(SearchResult::Over {
+        kept: explored.count(question.most),
+        cause,
+    })
+}
+
 /// The result of a search that has kept its whole list. An error means out of memory.
 fn whole_answer<'a>(
     alloc: Global,
@@ -125,18 +139,18 @@ fn whole_answer<'a>(
         return Ok(SearchResult::Finite(kept));
     }
     let Some(mut waiters) = explored.waiters(alloc)? else {
-        return Ok(SearchResult::Over(kept));
+        return unknown(explored, question);
     };
     explored.note_all(alloc, &mut waiters)?;
     if waiters.all_go_on() {
         return Ok(SearchResult::Finite(kept));
     }
     let Some(at) = waiters.fullest() else {
-        return Ok(SearchResult::Over(kept));
+        return unknown(explored, question);
     };
     match show_dead(alloc, program, explored, &waiters, at)? {
         Some(found) => Ok(found),
-        None => Ok(SearchResult::Over(kept)),
+        None => unknown(explored, question),
     }
 }
 
@@ -155,13 +169,13 @@ fn answer<'a, P: Progress>(
 {
     let at = match explored.look(alloc, question, progress)? {
         RunEnd::Whole => return whole_answer(alloc, program, explored, question),
-        RunEnd::Over => return Ok(SearchResult::Over(explored.count(question.most))),
+        RunEnd::Over => return unknown(explored, question),
         RunEnd::Shown(at) => at,
     };
     let way = way_to(alloc, &explored.origins, at)?;
     match show(alloc, program, &way, question)? {
         Some(found) => Ok(found),
-        None => Ok(SearchResult::Over(explored.count(question.most))),
+        None => unknown(explored, question),
     }
 }
 
@@ -184,7 +198,7 @@ fn search_from<'a, P: Progress>(
     };
     match begin(alloc, program, explored, scope) {
         Ok(true) => answer(alloc, program, explored, question, progress),
-        Ok(false) => Ok(SearchResult::Over(0)),
+        Ok(false) => unknown(explored, question),
         Err(_) => Err(AllocError),
     }
 }
@@ -207,7 +221,7 @@ pub fn search<P: Progress>(
         → LeadsInOrder (program_of program.now.program.now) ls (IsWantedDead (program_of program.now.program.now) question.now names.items) }
     ensures fault { (ls : List Label) → result ≡ Ok (SearchResult.Fault ls) → LeadsInOrder (program_of program.now.program.now) ls (IsShownFault (program_of program.now.program.now) question.now) }
     ensures finite { (k : ℕ) → result ≡ Ok (SearchResult.Finite k) → IsFinite (program_of program.now.program.now) question.now k }
-    ensures over { (k : ℕ) → result ≡ Ok (SearchResult.Over k) → k ≤ question.now.most }
+    ensures over { (k : ℕ) (why : OneCause) → result ≡ Ok (SearchResult.Over k why) → IsCutOff question.now.most k why }
 {
     let mut explored = Explored::make(alloc, program.program);
     search_from(alloc, program, &mut explored, question, progress)

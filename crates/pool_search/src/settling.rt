@@ -1,5 +1,5 @@
 //! Settling: transitions that need no choice are made at once, and only the configuration after them is kept.
-ghost use Rattle.std.specs.Prelude.{◌≡◌, ◌∷◌, ◌++◌, [], Ok, IfOk, IfSome, true, false};
+ghost use Rattle.std.specs.Prelude.{◌≡◌, ◌∷◌, ◌++◌, [], Ok, None, IfOk, IfSome, true, false};
 ghost use Rattle.pool_semantics.specs.PlainOf.{is_spent};
 ghost use Rattle.visited_set.specs.Courses.{course_of};
 ghost use Rattle.pool_search.specs.Steps.{HasFollowed, HasMade, HasSettled, HasStepped};
@@ -169,21 +169,21 @@ fn settle_once(
     }
 }
 
-/// Makes transitions that the search follows until none is left but those of objects that spin. `false` after
-/// 1,000,000 of them. An error means out of memory.
-pub fn settle<'a>(plain: &mut Plain<'a>, keeps: Keeps) -> Result<bool, AllocError>
+/// Makes transitions that the search follows until none is left but those of objects that spin. Then the result is None.
+/// After 1,000,000 of them it is the object that made the last one. An error means out of memory.
+pub fn settle<'a>(plain: &mut Plain<'a>, keeps: Keeps) -> Result<Option<u32>, AllocError>
     requires { is_spent plain.old ≡ false }
-    ensures { result ≡ Ok true → HasFollowed (course_of keeps) plain.old plain.new }
+    ensures { result ≡ Ok None → HasFollowed (course_of keeps) plain.old plain.new }
 {
     let mut turns = Turns::make(plain.state().alloc);
     for _made in 0..SETTLE {
         match settle_once(plain, keeps, &turns) {
             Ok(Some(label)) => turns.note(plain, &label)?,
-            Ok(None) => return Ok(true),
+            Ok(None) => return Ok(None),
             Err(_) => return Err(AllocError),
         }
     }
-    Ok(false)
+    Ok(Some(turns.last))
 }
 
 /// Settles in the same way, and appends each label to `shown`. `false` if 1,000,000 labels did not settle it. An error

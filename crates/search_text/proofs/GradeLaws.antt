@@ -23,16 +23,18 @@ use Rattle.search_text.specs.ListedOutcomes as T
 use Rattle.search_text.specs.ListedOutcomes.{TellsAllowed}
 use Rattle.search_text.specs.declared.answers.Found.{Found}
 use Rattle.search_text.specs.declared.answers.Found.TheVariants as O
+use Rattle.pool_search.specs.declared.queries.Cause.{Cause}
+use Rattle.pool_search.specs.CutOff.{IsCutOff}
 use Rattle.pool_search.specs.declared.queries.Query.{Query}
 use Rattle.pool_search.specs.SearchTargets.{IsFinite}
 
 -- the grade of what is told of outcomes that are all allowed
-pub allowed_grade : (names : List Text) (p : ProgramTree) (allowed : List Text) (may_run_on : Bool) (most : ℕ) (list : List Outcome) (whole : Bool) (kept : ℕ) (text : Text) (found : Found)
-    → Each (IsShown p) list → (whole ≡ true → HasAllOutcomes p list) → Each (λ o. is_allowed allowed names o ≡ true) list → kept ≤ most → TellsAllowed names list whole kept may_run_on text found
+pub allowed_grade : (names : List Text) (p : ProgramTree) (allowed : List Text) (may_run_on : Bool) (most : ℕ) (list : List Outcome) (whole : Bool) (kept : ℕ) (why : Cause) (text : Text) (found : Found)
+    → Each (IsShown p) list → (whole ≡ true → HasAllOutcomes p list) → Each (λ o. is_allowed allowed names o ≡ true) list → kept ≤ most → IsCutOff most kept why → TellsAllowed names list whole kept why may_run_on text found
     → GradesEnds names p allowed may_run_on most text found
-allowed_grade names p allowed may_run_on most list true kept text found shown all right within (T.listed some says is) = A.passes list kept (all refl) shown right (some refl) within says is
-allowed_grade names p allowed may_run_on most list false kept text found shown all right within (T.listed some says is) = A.unknown list kept shown within says is
-allowed_grade names p allowed may_run_on most list whole kept text found shown all right within (T.empty complete none asked says is) =
+allowed_grade names p allowed may_run_on most list true kept why text found shown all right within cut (T.listed some says is) = A.passes list kept (all refl) shown right (some refl) within says is
+allowed_grade names p allowed may_run_on most list false kept why text found shown all right within cut (T.listed some says is) = A.unknown list kept why shown cut says is
+allowed_grade names p allowed may_run_on most list whole kept why text found shown all right within cut (T.empty complete none asked says is) =
     A.running kept (subst (HasAllOutcomes p) none (all complete)) asked within says is
 
 left_if_in_call : (a : Action) → is_in_call a ≡ true → is_left_over a ≡ true
@@ -92,7 +94,7 @@ finite_of names p q text found (A.stuck ls run says is) h = absurd (let z : O.Sh
 finite_of names p q text found (A.dead ls objects run says is) h = absurd (let z : O.Shown ≡ O.Finite = sym is ∙ h in cc)
 finite_of names p q text found (A.faulty ls run says is) h = absurd (let z : O.Shown ≡ O.Finite = sym is ∙ h in cc)
 finite_of names p q text found (A.finite kept never says is) h = (kept, never)
-finite_of names p q text found (A.over kept within says is) h = absurd (let z : O.Over ≡ O.Finite = sym is ∙ h in cc)
+finite_of names p q text found (A.over kept why cut says is) h = absurd (let z : O.Over ≡ O.Finite = sym is ∙ h in cc)
 
 -- what a query that found nothing says of a configuration that is reached
 well_where : (p : ProgramTree) (most kept : ℕ) → IsFinite p (any_wrong most) kept → (d : Configuration) → IsReached p d → IsWell p d
@@ -131,4 +133,4 @@ pass_runs_well names allowed p may_run_on most text (A.by_ends (A.passes list ke
 }
 pass_runs_well names allowed p may_run_on most text (A.by_ends (A.running kept all asked within says is) nothing) = absurd (cc is)
 pass_runs_well names allowed p may_run_on most text (A.by_ends (A.fails o ls run wrong says is) nothing) = absurd (cc is)
-pass_runs_well names allowed p may_run_on most text (A.by_ends (A.unknown list kept shown within says is) nothing) = absurd (cc is)
+pass_runs_well names allowed p may_run_on most text (A.by_ends (A.unknown list kept why shown cut says is) nothing) = absurd (cc is)

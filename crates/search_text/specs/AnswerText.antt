@@ -1,12 +1,16 @@
 -- The text of the result of a search; steps are written as in a record.
-use Rattle.std.specs.Prelude.{ℕ, List, [], ◌∷◌, ◌++◌, Bool, true, false, codes, decimal, if◌then◌else◌, map}
+use Rattle.std.specs.Prelude.{ℕ, List, [], ◌∷◌, ◌++◌, Option, Some, None, Bool, true, false, codes, decimal, if◌then◌else◌, map}
 use Rattle.text_scan.specs.Text.{Text}
 use Rattle.run_types.specs.declared.types.Label.{Label}
 use Rattle.run_types.specs.declared.types.Label.TheVariants as L
-use Rattle.record_writer.specs.RecordText.{item_text, label_words}
+use Rattle.record_writer.specs.RecordText.{item_text, label_words, object_text, text_at}
 use Rattle.pool_search.specs.declared.outcomes.EndKind.{EndKind}
 use Rattle.pool_search.specs.declared.outcomes.EndKind.TheVariants as K
 use Rattle.pool_search.specs.declared.outcomes.Outcome.{Outcome}
+use Rattle.pool_search.specs.declared.queries.Mailbox.{Mailbox}
+use Rattle.pool_search.specs.declared.queries.Member.{Member}
+use Rattle.pool_search.specs.declared.queries.Cause.{Cause}
+use Rattle.pool_search.specs.declared.queries.Cause.TheVariants as C
 use Rattle.wait_report.specs.declared.rows.ObjectRow.{ObjectRow}
 use Rattle.wait_report.specs.Report.{cycles_in, cycles_text, line}
 use Rattle.waiting_objects.specs.WaitsText.{waits_text}
@@ -60,9 +64,30 @@ fault_text names ls = steps_text names (steps ls) ++ end_line (codes "fault") (o
 abbrev pub finite_text : ℕ → Text
 finite_text kept = end_line (codes "finite") kept
 
--- the search met a bound after this number of configurations
-abbrev pub over_text : ℕ → Text
-over_text kept = end_line (codes "over") kept
+-- the fullest mailbox: its object, the class, and the number of messages
+abbrev pub mailbox_line : List Text → Mailbox → Text
+mailbox_line names m = line (codes "mailbox" ∷ object_text m.owner.object ∷ text_at names m.owner.class ∷ decimal m.messages ∷ [])
+
+abbrev pub bound_line : Text
+bound_line = codes "reason bound\n"
+
+-- the object that made the last of the transitions, and its class
+abbrev pub transitions_line : List Text → Member → Text
+transitions_line names last = line (codes "reason" ∷ codes "transitions" ∷ object_text last.object ∷ text_at names last.class ∷ [])
+
+abbrev pub limit_line : Text
+limit_line = codes "reason limit\n"
+
+-- why the search does not know the answer
+abbrev pub cause_text : List Text → Cause → Text
+cause_text names (C.Bound None) = bound_line
+cause_text names (C.Bound (Some m)) = bound_line ++ mailbox_line names m
+cause_text names (C.Transitions last) = transitions_line names last
+cause_text names C.Limit = limit_line
+
+-- the search does not know the answer, and kept this number of configurations
+abbrev pub over_text : List Text → ℕ → Cause → Text
+over_text names kept why = cause_text names why ++ end_line (codes "over") kept
 
 -- no run ends, and the search kept this number of configurations
 abbrev pub running_text : ℕ → Text
@@ -84,9 +109,9 @@ outcomes_text names [] = []
 outcomes_text names (o ∷ rest) = outcome_line names o ++ outcomes_text names rest
 
 -- the end of a list of outcomes that is complete, or may not be
-abbrev pub ending : Bool → ℕ → Text
-ending true kept = finite_text kept
-ending false kept = over_text kept
+abbrev pub ending : List Text → Bool → ℕ → Cause → Text
+ending names true kept why = finite_text kept
+ending names false kept why = over_text names kept why
 
 -- a run with its outcome, and the number of its transitions that are not local
 abbrev pub wrong_text : List Text → Outcome → List Label → Text

@@ -6,6 +6,8 @@ use Rattle.run_types.specs.declared.types.Label.{Label}
 use Rattle.pool_search.specs.declared.queries.Query.{Query}
 use Rattle.pool_search.specs.declared.queries.Target.TheVariants as W
 use Rattle.pool_search.specs.SearchTargets.{LeadsInOrder, IsWantedEnd, IsWantedDead, IsShownFault, IsFinite}
+use Rattle.pool_search.specs.declared.queries.Cause.{Cause}
+use Rattle.pool_search.specs.CutOff.{IsCutOff}
 use Rattle.run_types.specs.Tables.{Each}
 use Rattle.pool_search.specs.declared.outcomes.Outcome.{Outcome}
 use Rattle.pool_search.specs.OutcomeTargets.{HasAllOutcomes, IsRunInOrder, IsShown}
@@ -20,13 +22,13 @@ use Rattle.search_text.specs.declared.answers.Found.TheVariants as O
 -- Or it is a run after which objects are dead, with these objects, or a run that meets a run-time error and is no such
 -- end. A run gives new objects the names 1, 2, .. in order.
 -- Or no run leads to such a configuration, under any names of objects, and a whole list of configurations shows this.
--- Or nothing is known after this number of configurations.
+-- Or nothing is known after this number of configurations, for this cause.
 pub data Answers (names : List Text) (p : ProgramTree) (q : Query) (text : Text) (found : Found) : Type 0 where
   stuck : (ls : List Label) (run : LeadsInOrder p ls (IsWantedEnd p q)) → text ≡ stuck_text names ls (waiting_rows q.all p run.0.last) → found ≡ O.Shown → Answers names p q text found
   dead : (ls : List Label) (objects : List ℕ) (run : LeadsInOrder p ls (IsWantedDead p q objects)) → text ≡ stuck_text names ls (rows_of objects (waiting_rows false p run.0.last)) → found ≡ O.Shown → Answers names p q text found
   faulty : (ls : List Label) → LeadsInOrder p ls (IsShownFault p q) → text ≡ fault_text names ls → found ≡ O.Shown → Answers names p q text found
   finite : (kept : ℕ) → IsFinite p q kept → text ≡ finite_text kept → found ≡ O.Finite → Answers names p q text found
-  over : (kept : ℕ) → kept ≤ q.most → text ≡ over_text kept → found ≡ O.Over → Answers names p q text found
+  over : (kept : ℕ) (why : Cause) → IsCutOff q.most kept why → text ≡ over_text names kept why → found ≡ O.Over → Answers names p q text found
 
 -- what was found where all outcomes are asked for: the list is complete, or may not be
 abbrev pub found_of : Bool → Found
@@ -39,10 +41,12 @@ pub record TellsOutcomes (names : List Text) (p : ProgramTree) (most : ℕ) (tex
   pub list : List Outcome
   pub whole : Bool
   pub kept : ℕ
+  pub why : Cause
   pub shown : Each (IsShown p) list
   pub complete : whole ≡ true → HasAllOutcomes p list
   pub within : kept ≤ most
-  pub says : text ≡ outcomes_text names list ++ ending whole kept
+  pub cut_off : IsCutOff most kept why
+  pub says : text ≡ outcomes_text names list ++ ending names whole kept why
   pub is : found ≡ found_of whole
 
 -- A run from the start with an outcome, that of the place in the list, counted from 1. It gives new objects the names
@@ -50,7 +54,7 @@ pub record TellsOutcomes (names : List Text) (p : ProgramTree) (most : ℕ) (tex
 pub data ShowsRun (names : List Text) (p : ProgramTree) (place most : ℕ) (text : Text) (found : Found) : Type 0 where
   run : (o : Outcome) (ls : List Label) → IsRunInOrder p o ls → text ≡ run_text names o.kind ls → found ≡ O.Run → ShowsRun names p place most text found
   missing : (list : List Outcome) (kept : ℕ) → HasAllOutcomes p list → length list ≤ place - 1 → kept ≤ most → text ≡ finite_text kept → found ≡ O.Missing → ShowsRun names p place most text found
-  unknown : (kept : ℕ) → kept ≤ most → text ≡ over_text kept → found ≡ O.Over → ShowsRun names p place most text found
+  unknown : (kept : ℕ) (why : Cause) → IsCutOff most kept why → text ≡ over_text names kept why → found ≡ O.Over → ShowsRun names p place most text found
 
 -- The grade of the ends of a program. Each run that comes to its end has an outcome that is allowed, under any names of
 -- objects, and some run ends, or none needs to. Or no run ends, and one needs to. Or a run from the start has an outcome
@@ -60,7 +64,7 @@ pub data GradesEnds (names : List Text) (p : ProgramTree) (allowed : List Text) 
       → text ≡ outcomes_text names list ++ finite_text kept → found ≡ O.Finite → GradesEnds names p allowed may_run_on most text found
   running : (kept : ℕ) → HasAllOutcomes p [] → may_run_on ≡ false → kept ≤ most → text ≡ running_text kept → found ≡ O.Running → GradesEnds names p allowed may_run_on most text found
   fails : (o : Outcome) (ls : List Label) → IsRunInOrder p o ls → is_allowed allowed names o ≡ false → text ≡ wrong_text names o ls → found ≡ O.Shown → GradesEnds names p allowed may_run_on most text found
-  unknown : (list : List Outcome) (kept : ℕ) → Each (IsShown p) list → kept ≤ most → text ≡ outcomes_text names list ++ over_text kept → found ≡ O.Over → GradesEnds names p allowed may_run_on most text found
+  unknown : (list : List Outcome) (kept : ℕ) (why : Cause) → Each (IsShown p) list → IsCutOff most kept why → text ≡ outcomes_text names list ++ over_text names kept why → found ≡ O.Over → GradesEnds names p allowed may_run_on most text found
 
 -- the query for a dead object or a run-time error, anywhere in a run
 abbrev pub any_wrong : ℕ → Query

@@ -6,10 +6,11 @@ ghost use Rattle.search_text.specs.declared.answers.Found.TheVariants as O;
 ghost use Rattle.wait_report.specs.Calls.{names_of, Rising};
 
 use crate::answers::{Answer, Found};
+use crate::causes::push_cause;
 use crate::errors::push_errors;
 use crate::steps::{other_than_local, push_steps};
 use label_list::LabelList;
-use pool_search::{EndKind, Outcome};
+use pool_search::{Cause, EndKind, Outcome};
 use record_writer::{push_count, push_item, push_word};
 use run_types::{Item, Names};
 use std::alloc::{AllocError, Global};
@@ -24,6 +25,19 @@ fn push_end(text: &mut Vec<u8>, word: &[u8], count: usize) -> Result<(), AllocEr
     put!(push_word(text, word));
     put!(push_count(text, count));
     text.extend_from_slice(b"\n")
+}
+
+/// Appends why the search does not know the answer, and the end line.
+fn push_over(
+    text: &mut Vec<u8>,
+    names: &Names,
+    kept: usize,
+    cause: &Cause,
+) -> Result<(), AllocError>
+    ensures { OnOk result (text.new.items ≡ text.old.items ++ over_text names.now kept cause.now) }
+{
+    put!(push_cause(text, names, cause));
+    push_end(text, b"over", kept)
 }
 
 /// The answer for a run that gets stuck: its steps, the errors that were met in it, the objects that wait at its end, the
@@ -72,12 +86,12 @@ pub fn finite_answer(alloc: Global, kept: u32, found: Found) -> Result<Answer, A
     Ok(Answer { text, found })
 }
 
-/// The answer of a search that met a bound. `kept` is the number of configurations. An error means out of memory.
-pub fn over_answer(alloc: Global, kept: u32) -> Result<Answer, AllocError>
-    ensures { IfOk result (λ a. (a.text.items ≡ over_text kept) × (a.found ≡ O.Over)) }
+/// The answer of a search that does not know. `kept` is the number of configurations. An error means out of memory.
+pub fn over_answer(alloc: Global, names: &Names, kept: u32, cause: &Cause) -> Result<Answer, AllocError>
+    ensures { IfOk result (λ a. (a.text.items ≡ over_text names.now kept cause.now) × (a.found ≡ O.Over)) }
 {
     let mut text = Vec::new(alloc);
-    put!(push_end(&mut text, b"over", kept as usize));
+    put!(push_over(&mut text, names, kept as usize, cause));
     Ok(Answer {
         text,
         found: Found::Over,
@@ -130,32 +144,39 @@ fn push_outcome(text: &mut Vec<u8>, names: &Names, outcome: &Outcome) -> Result<
 }
 
 /// Appends the end of a list of outcomes. `whole` tells whether the list is complete.
-fn push_ending(text: &mut Vec<u8>, whole: bool, kept: usize) -> Result<(), AllocError>
-    ensures { OnOk result (text.new.items ≡ text.old.items ++ ending whole kept) }
+fn push_ending(
+    text: &mut Vec<u8>,
+    names: &Names,
+    whole: bool,
+    kept: usize,
+    cause: &Cause,
+) -> Result<(), AllocError>
+    ensures { OnOk result (text.new.items ≡ text.old.items ++ ending names.now whole kept cause.now) }
 {
     if whole {
         push_end(text, b"finite", kept)
     } else {
-        push_end(text, b"over", kept)
+        push_over(text, names, kept, cause)
     }
 }
 
-/// The lines of these outcomes, and the end line. `whole` tells whether there is no other outcome, and `kept` is the
-/// number of configurations. An error means out of memory.
+/// The lines of these outcomes, and the end. `whole` tells whether there is no other outcome, and `cause` why that may not
+/// be known. `kept` is the number of configurations. An error means out of memory.
 pub fn outcomes_text(
     alloc: Global,
     names: &Names,
     list: &[Outcome],
     whole: bool,
     kept: usize,
+    cause: &Cause,
 ) -> Result<Vec<u8>, AllocError>
-    ensures { IfOk result (λ text. text.items ≡ outcomes_text names.now list.now ++ ending whole kept) }
+    ensures { IfOk result (λ text. text.items ≡ outcomes_text names.now list.now ++ ending names.now whole kept cause.now) }
 {
     let mut text = Vec::new(alloc);
     for outcome in list {
         put!(push_outcome(&mut text, names, outcome));
     }
-    put!(push_ending(&mut text, whole, kept));
+    put!(push_ending(&mut text, names, whole, kept, cause));
     Ok(text)
 }
 

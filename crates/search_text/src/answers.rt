@@ -137,7 +137,7 @@ fn sought_answer<P: Progress>(
         ) => { dead_answer(alloc, program, names, question, &labels, &dead) }
         Ok(SearchResult::Fault(labels)) => fault_answer(alloc, names, &labels),
         Ok(SearchResult::Finite(kept)) => finite_answer(alloc, kept, Found::Finite),
-        Ok(SearchResult::Over(kept)) => over_answer(alloc, kept),
+        Ok(SearchResult::Over { kept, cause }) => over_answer(alloc, names, kept, &cause),
         Err(AllocError) => Err(AllocError),
     }
 }
@@ -156,9 +156,9 @@ fn listed_answer(
     told: &Outcomes,
     whole: bool,
 ) -> Result<Answer, AllocError>
-    ensures { IfOk result (λ a. (a.text.items ≡ outcomes_text names.now told.now.list.items ++ ending whole told.now.kept) × (a.found ≡ found_of whole)) }
+    ensures { IfOk result (λ a. (a.text.items ≡ outcomes_text names.now told.now.list.items ++ ending names.now whole told.now.kept told.now.cause) × (a.found ≡ found_of whole)) }
 {
-    let text = outcomes_text(alloc, names, &told.list, whole, told.kept as usize)?;
+    let text = outcomes_text(alloc, names, &told.list, whole, told.kept as usize, &told.cause)?;
     Ok(Answer {
         text,
         found: found_of(whole),
@@ -195,7 +195,7 @@ fn run_answer<P: Progress>(
             shown_answer(alloc, names, outcome.kind, &labels)
         }
         Ok(OutcomeRun::Finite(count)) => finite_answer(alloc, count, Found::Missing),
-        Ok(OutcomeRun::Over(count)) => over_answer(alloc, count),
+        Ok(OutcomeRun::Over { kept, cause }) => over_answer(alloc, names, kept, &cause),
         Err(_) => Err(AllocError),
     }
 }
@@ -208,7 +208,7 @@ fn allowed_answer(
     told: &Outcomes,
     may_run_on: bool,
 ) -> Result<Answer, AllocError>
-    ensures { IfOk result (λ a. TellsAllowed names.now told.now.list.items told.now.whole told.now.kept may_run_on a.text.items a.found) }
+    ensures { IfOk result (λ a. TellsAllowed names.now told.now.list.items told.now.whole told.now.kept told.now.cause may_run_on a.text.items a.found) }
 {
     if may_run_on {
         return listed_answer(alloc, names, told, told.whole);

@@ -14,6 +14,7 @@ macro_rules! put {
 
 mod answer;
 mod answers;
+mod causes;
 mod chosen;
 mod errors;
 mod grading;

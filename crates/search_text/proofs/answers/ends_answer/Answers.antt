@@ -16,8 +16,8 @@ returns-in_default g c =
     let allowed = map string_bytes c.args.allowed.now in
     let right = subst (λ r. IfNone r (Each (λ o. is_allowed allowed names o ≡ true) c.deref.result.now)) c.in_default.is c.in_ok-place.ensures in
     IfOk-weaker c.allowed_answer.result _ _ (λ a says.
-    allowed_grade names (program_of c.args.program.now.program.now) allowed c.args.may_run_on c.args.most t.list.items t.whole t.kept a.text.items a.found h.shown h.all
-    (subst (Each (λ o. is_allowed allowed names o ≡ true)) c.deref.ensures.value right) h.within says)
+    allowed_grade names (program_of c.args.program.now.program.now) allowed c.args.may_run_on c.args.most t.list.items t.whole t.kept t.cause a.text.items a.found h.shown h.all
+    (subst (Each (λ o. is_allowed allowed names o ≡ true)) c.deref.ensures.value right) h.within h.cause says)
     c.allowed_answer.ensures
 
 pub returns-then-not-branch : goal.returns-then-not-branch
@@ -31,4 +31,4 @@ pub returns : goal.returns
 returns g c =
     let t = c.in_ok-told.told in
     let h = c.in_ok-told.ensures in
-    IfOk-weaker c.listed_answer.result _ _ (λ a says. A.unknown t.list.items t.kept h.shown h.within says.0 says.1) c.listed_answer.ensures
+    IfOk-weaker c.listed_answer.result _ _ (λ a says. A.unknown t.list.items t.kept t.cause h.shown h.cause says.0 says.1) c.listed_answer.ensures

@@ -26,4 +26,4 @@ returns-in-Ok-Finite g c =
 pub returns-in-Ok-Over : goal.returns-in-Ok-Over
 returns-in-Ok-Over g c =
     let o = c.in-Ok-Over in
-    IfOk-weaker c.over_answer.result _ _ (λ a says. A.over o.kept (o.ensures.over o.kept (ap Ok o.field-0-is)) says.0 says.1) c.over_answer.ensures
+    IfOk-weaker c.over_answer.result _ _ (λ a says. A.over o.kept o.cause (o.ensures.over o.kept o.cause (ap Ok o.field-0-is)) says.0 says.1) c.over_answer.ensures

@@ -11,10 +11,10 @@ use Rattle.pool_search.proofs.TrialResults.{found_weaker}
 use Rattle.pool_search.proofs.explored.Explored.settle_and_keep.Goals as goal
 
 pub keep-requires-clause-fresh : goal.keep-requires-clause-fresh
-keep-requires-clause-fresh c = (c.in-Ok-true.ensures (ap Ok c.in-Ok-true.field-0-test)).fresh
+keep-requires-clause-fresh c = (c.in-Ok-None.ensures (ap Ok c.in-Ok-None.field-0-is)).fresh
 
 pub keep-requires-clause-program : goal.keep-requires-clause-program
-keep-requires-clause-program c = (c.in-Ok-true.ensures (ap Ok c.in-Ok-true.field-0-test)).program ∙ c.requires.program
+keep-requires-clause-program c = (c.in-Ok-None.ensures (ap Ok c.in-Ok-None.field-0-is)).program ∙ c.requires.program
 
 pub keep-requires-clause-reached : goal.keep-requires-clause-reached
 keep-requires-clause-reached c =
@@ -22,15 +22,15 @@ keep-requires-clause-reached c =
     let from = configuration_of c.args.plain.now in
     let to = configuration_of c.settle.new.plain in
     reached_on (searched c.args.self.now) k (keeps_nothing c.args.scope.keeps) (get_or (lists c.args.self.now) c.args.written []) from to c.requires.reached
-    (subst (λ (q : ProgramTree). Follows q k from to) c.requires.program (c.in-Ok-true.ensures (ap Ok c.in-Ok-true.field-0-test)).follows)
+    (subst (λ (q : ProgramTree). Follows q k from to) c.requires.program (c.in-Ok-None.ensures (ap Ok c.in-Ok-None.field-0-is)).follows)
 
-pub returns-in-Ok-true-clause-leads : goal.returns-in-Ok-true-clause-leads
-returns-in-Ok-true-clause-leads c =
+pub returns-in-Ok-None-clause-leads : goal.returns-in-Ok-None-clause-leads
+returns-in-Ok-None-clause-leads c =
     let p = searched c.args.self.now in
     let k = course_of c.args.scope.keeps in
     let es = entries c.keep.new.self in
     let w = get_or (lists c.args.self.now) c.args.written [] in
     let from = configuration_of c.args.plain.now in
     let to = configuration_of c.settle.new.plain in
-    let follows : Follows p k from to = subst (λ (q : ProgramTree). Follows q k from to) c.requires.program (c.in-Ok-true.ensures (ap Ok c.in-Ok-true.field-0-test)).follows in
+    let follows : Follows p k from to = subst (λ (q : ProgramTree). Follows q k from to) c.requires.program (c.in-Ok-None.ensures (ap Ok c.in-Ok-None.field-0-is)).follows in
     found_weaker (λ (i : ℕ). slice_get es i ≡ Some (entry c.args.next w to)) (λ (i : ℕ). SettlesAt p k es c.args.next w from i) c.keep.result (λ i there. record { to = to; follows = follows; there = there }) c.keep.ensures.there
