@@ -80,15 +80,22 @@ fn serve<F: Files, K: Sink, E: Sink, P: Progress>(
 }
 
 /// Appends the line that names the word.
-fn push_question(text: &mut Vec<u8>, word: Option<&str>) -> Result<(), AllocError>
-    ensures { OnOk result (text.new.items ≡ text.old.items ++ question_line (option_map (λ w. w.now) word.entry)) }
+fn push_word(text: &mut Vec<u8>, word: &str) -> Result<(), AllocError>
+    ensures { OnOk result (text.new.items ≡ text.old.items ++ question_line (Some word.now)) }
 {
-    let Some(word) = word else {
-        return Ok(());
-    };
     text.extend_from_slice(b"explore: what is ")?;
     text.extend_from_slice(word.as_bytes())?;
     text.extend_from_slice(b"?\n")
+}
+
+/// Appends the line that names the word, if there is one.
+fn push_question(text: &mut Vec<u8>, word: Option<&str>) -> Result<(), AllocError>
+    ensures { OnOk result (text.new.items ≡ text.old.items ++ question_line (option_map (λ w. w.now) word.entry)) }
+{
+    match word {
+        Some(word) => push_word(text, word),
+        None => Ok(()),
+    }
 }
 
 /// The usage text for arguments that are not a command. An error means out of memory.

@@ -1,5 +1,5 @@
 //! Finds the first argument that fits nowhere.
-ghost use Rattle.std.specs.Prelude.{◌≡◌, [], ◌∷◌, option_map};
+ghost use Rattle.std.specs.Prelude.{◌≡◌, [], ◌∷◌, Some, option_map};
 ghost use Rattle.std.specs.Option.{option_or};
 ghost use Rattle.text_scan.specs.Lines.{decimal_of};
 ghost use Rattle.explore_driver.specs.Words.{texts_of};
@@ -167,6 +167,25 @@ fn in_search_of_four<'a>(
     }
 }
 
+/// The same, of five arguments of a search or more. The fifth is one too many.
+fn in_search_of_more<'a>(
+    first: &'a str,
+    second: &'a str,
+    third: &'a str,
+    fourth: &'a str,
+    fifth: &'a str,
+) -> Option<&'a str>
+    ensures { option_map (λ w. w.now) result ≡ option_or (in_three first.entry.now second.entry.now third.entry.now) (option_or (no_number fourth.entry.now) (Some fifth.entry.now)) }
+{
+    match in_three(first, second, third) {
+        Some(word) => Some(word),
+        None => match no_number(fourth) {
+            Some(word) => Some(word),
+            None => Some(fifth),
+        },
+    }
+}
+
 /// The first argument of a search that fits nowhere.
 fn in_search<'a>(words: &'a [String]) -> Option<&'a str>
     ensures { option_map (λ w. w.now) result ≡ in_search (texts_of words.now) }
@@ -178,10 +197,7 @@ fn in_search<'a>(words: &'a [String]) -> Option<&'a str>
         [a, b, c] => in_search_of_three(a.as_str(), b.as_str(), c.as_str()),
         [a, b, c, d] => in_search_of_four(a.as_str(), b.as_str(), c.as_str(), d.as_str()),
         [a, b, c, d, e, ..] => {
-            match in_search_of_four(a.as_str(), b.as_str(), c.as_str(), d.as_str()) {
-                Some(word) => Some(word),
-                None => Some(e.as_str()),
-            }
+            in_search_of_more(a.as_str(), b.as_str(), c.as_str(), d.as_str(), e.as_str())
         }
     }
 }
