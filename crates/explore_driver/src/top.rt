@@ -79,13 +79,25 @@ fn serve<F: Files, K: Sink, E: Sink, P: Progress>(
     }
 }
 
+/// Appends these bytes, the word, and the bytes behind it.
+fn push_between(
+    text: &mut Vec<u8>,
+    before: &[u8],
+    word: &[u8],
+    behind: &[u8],
+) -> Result<(), AllocError>
+    ensures { OnOk result (text.new.items ≡ text.old.items ++ (before.now ++ (word.now ++ behind.now))) }
+{
+    text.extend_from_slice(before)?;
+    text.extend_from_slice(word)?;
+    text.extend_from_slice(behind)
+}
+
 /// Appends the line that names the word.
 fn push_word(text: &mut Vec<u8>, word: &str) -> Result<(), AllocError>
     ensures { OnOk result (text.new.items ≡ text.old.items ++ question_line (Some word.now)) }
 {
-    text.extend_from_slice(b"explore: what is ")?;
-    text.extend_from_slice(word.as_bytes())?;
-    text.extend_from_slice(b"?\n")
+    push_between(text, b"explore: what is ", word.as_bytes(), b"?\n")
 }
 
 /// Appends the line that names the word, if there is one.
