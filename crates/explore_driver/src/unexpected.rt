@@ -54,13 +54,7 @@ fn no_line<'a>(word: &'a str, least: u64) -> Option<&'a str>
     ensures { option_map (λ w. w.now) result ≡ no_line word.entry.now least (decimal_of word.entry.now) }
 {
     match decimal(word.as_bytes()) {
-        Decimal::Value(k) => {
-            if least <= k {
-                None
-            } else {
-                Some(word)
-            }
-        }
+        Decimal::Value(k) => { if least <= k { None } else { Some(word) } }
         Decimal::NotDigits => Some(word),
         Decimal::TooLarge => Some(word),
     }
@@ -265,12 +259,7 @@ fn in_line<'a>(first: &'a str, second: &'a str, third: &'a str) -> Option<&'a st
 }
 
 /// The word that fits nowhere of two names and the numbers of two lines.
-fn in_lines<'a>(
-    first: &'a str,
-    second: &'a str,
-    third: &'a str,
-    fourth: &'a str,
-) -> Option<&'a str>
+fn in_lines<'a>(first: &'a str, second: &'a str, third: &'a str, fourth: &'a str) -> Option<&'a str>
     ensures { option_map (λ w. w.now) result ≡ in_lines first.entry.now second.entry.now third.entry.now fourth.entry.now }
 {
     match in_line(first, second, third) {
