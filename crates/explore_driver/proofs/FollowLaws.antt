@@ -1,5 +1,5 @@
 -- How following a stream ends: what is read and written piece after piece, and the ends of the call that come of it.
-use Rattle.std.proofs.Common.{◌≡◌, ◌∙◌, ◌⊎◌, inl, inr, ℕ, ◌+◌, ◌-◌, ◌^◌, ◌<◌, ◌≤◌, ◌++◌, List, [], ◌∷◌, length, take, drop, min, map, Option, Some, None, option_map, IfSome, IfNone, true, false, refl, sym, ap, subst, append_assoc, arith}
+use Rattle.std.proofs.Common.{◌≡◌, ◌∙◌, ◌⊎◌, inl, inr, ℕ, ◌+◌, ◌<◌, ◌≤◌, ◌++◌, List, [], ◌∷◌, length, take, drop, min, map, Option, Some, None, option_map, IfSome, IfNone, true, false, refl, sym, ap, subst, append_assoc, arith}
 use Rattle.std.proofs.lemmas.Grind.{common_steps}
 use Rattle.std.proofs.lemmas.List.{length-append}
 use Rattle.std.specs.List.{list_any}
@@ -9,15 +9,13 @@ use Rattle.pool_syntax.specs.Typing.{faults}
 use Rattle.pool_outside.specs.Outside.{Rose}
 use Rattle.pool_outside.specs.Reading.{AllRead, Reading, Told}
 use Rattle.pool_outside.specs.Writing.{IsIdle, Writing, Wrote, WroteFront}
-use Rattle.pool_outside.proofs.Laws.{append_nothing, cut_second, joined, rose_later}
+use Rattle.pool_outside.proofs.Laws.{cut_second, joined}
 use Rattle.run_types.specs.declared.types.Line.{Line}
 use Rattle.run_types.specs.declared.types.Line.TheVariants as L
 use Rattle.record_parser.specs.Lines as Parsed
 use Rattle.run_record.specs.Numbered.{numbered, numbered_by}
 use Rattle.run_record.specs.Records.{is_end}
-use Rattle.run_record.specs.declared.fault.RecordFault.{RecordFault}
 use Rattle.command_inputs.specs.declared.fault.Fault.{Fault}
-use Rattle.command_inputs.specs.declared.fault.Fault.TheVariants as F
 use Rattle.command_inputs.specs.declared.fault.Input.{Input}
 use Rattle.command_inputs.specs.declared.fault.Input.TheVariants as I
 use Rattle.command_inputs.specs.declared.fault.InputError.{InputError}
@@ -39,7 +37,7 @@ use Rattle.stream_check.specs.declared.judge.Stop.{Stop}
 use Rattle.stream_check.specs.declared.judge.Stop.TheVariants as Why
 use Rattle.stream_check.specs.Followed.{IsFollowed}
 use Rattle.stream_check.specs.Progress.{HasRead}
-use Rattle.stream_check.specs.Stream.{cut_off, has_end, stream_fault, stream_lines, stream_rows}
+use Rattle.stream_check.specs.Stream.{has_end, stream_fault, stream_rows}
 use Rattle.explore_driver.proofs.OutputLaws.{verdict_whole}
 use Rattle.explore_driver.specs.declared.follow.Followed.{Followed}
 use Rattle.explore_driver.specs.declared.follow.Followed.TheVariants as E

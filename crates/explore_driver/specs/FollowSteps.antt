@@ -8,7 +8,6 @@ use Rattle.pool_outside.specs.Writing.{IsIdle, Writing, Wrote, WroteFront}
 use Rattle.run_record.specs.declared.fault.RecordFault.{RecordFault}
 use Rattle.command_inputs.specs.declared.fault.Fault.{Fault}
 use Rattle.command_inputs.specs.declared.fault.Fault.TheVariants as F
-use Rattle.command_inputs.specs.declared.fault.Input.{Input}
 use Rattle.command_inputs.specs.declared.fault.Input.TheVariants as I
 use Rattle.command_inputs.specs.declared.fault.InputError.TheVariants as T
 use Rattle.record_writer.specs.WrittenText.{writes_text}

@@ -1,4 +1,4 @@
-use Rattle.std.proofs.Common.{rules, ◌≡◌, ◌∙◌, ℕ, ◌+◌, ◌<◌, ◌≤◌, ◌++◌, List, [], length, min, option_map, take, ap, refl, subst, sym, arith}
+use Rattle.std.proofs.Common.{rules, ◌≡◌, ◌∙◌, ℕ, ◌+◌, ◌<◌, ◌≤◌, ◌++◌, [], length, min, option_map, take, ap, refl, subst, sym}
 use Rattle.text_scan.specs.Text.{Text}
 use Rattle.pool_syntax.specs.TreeOf.{program_of}
 use Rattle.pool_outside.specs.Outside.{Rose}

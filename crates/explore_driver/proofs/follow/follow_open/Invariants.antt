@@ -1,5 +1,5 @@
 -- These bytes were read, the judge goes on, and the text for them was written.
-use Rattle.std.proofs.Common.{◌≡◌, ℕ, true, length}
+use Rattle.std.proofs.Common.{◌≡◌, true, length}
 use Rattle.pool_syntax.specs.TreeOf.{program_of}
 use Rattle.command_shell.specs.Writing.{writing}
 use Rattle.explore_driver.proofs.FollowLaws.{ReadSoFar}

@@ -1,7 +1,7 @@
-use Rattle.std.proofs.Common.{◌≡◌, ◌∙◌, ◌++◌, List, [], take, ap, subst, sym}
+use Rattle.std.proofs.Common.{◌∙◌, ◌++◌, take, ap, subst, sym}
 use Rattle.text_scan.specs.Text.{Text}
 use Rattle.pool_syntax.specs.TreeOf.{program_of}
-use Rattle.command_shell.specs.Writing.{Writing, Wrote, WroteFront, writing}
+use Rattle.command_shell.specs.Writing.{Wrote, WroteFront, writing}
 use Rattle.explore_driver.specs.FollowSteps.{PieceEnds}
 use Rattle.explore_driver.proofs.FollowLaws.{piece_cut, piece_made}
 use Rattle.explore_driver.proofs.follow.follow_piece.Goals as goal

@@ -1,5 +1,4 @@
 use Rattle.std.proofs.Common.{◌∙◌, [], ap, refl, sym}
-use Rattle.text_scan.specs.Text.{Text}
 use Rattle.pool_syntax.specs.TreeOf.{program_of}
 use Rattle.pool_outside.specs.Reading.{Told}
 use Rattle.pool_outside.proofs.Laws.{append_nothing}
