@@ -87,7 +87,12 @@ pub fn finite_answer(alloc: Global, kept: u32, found: Found) -> Result<Answer, A
 }
 
 /// The answer of a search that does not know. `kept` is the number of configurations. An error means out of memory.
-pub fn over_answer(alloc: Global, names: &Names, kept: u32, cause: &Cause) -> Result<Answer, AllocError>
+pub fn over_answer(
+    alloc: Global,
+    names: &Names,
+    kept: u32,
+    cause: &Cause,
+) -> Result<Answer, AllocError>
     ensures { IfOk result (λ a. (a.text.items ≡ over_text names.now kept cause.now) × (a.found ≡ O.Over)) }
 {
     let mut text = Vec::new(alloc);

@@ -158,7 +158,14 @@ fn listed_answer(
 ) -> Result<Answer, AllocError>
     ensures { IfOk result (λ a. (a.text.items ≡ outcomes_text names.now told.now.list.items ++ ending names.now whole told.now.kept told.now.cause) × (a.found ≡ found_of whole)) }
 {
-    let text = outcomes_text(alloc, names, &told.list, whole, told.kept as usize, &told.cause)?;
+    let text = outcomes_text(
+        alloc,
+        names,
+        &told.list,
+        whole,
+        told.kept as usize,
+        &told.cause,
+    )?;
     Ok(Answer {
         text,
         found: found_of(whole),

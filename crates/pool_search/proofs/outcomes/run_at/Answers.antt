@@ -3,7 +3,6 @@ use Rattle.std.specs.Prelude.{IfOk, IfSome}
 use Rattle.std.specs.declared.alloc.AllocError.{AllocError}
 use Rattle.pool_syntax.specs.Terms.{ProgramTree}
 use Rattle.pool_syntax.specs.TreeOf.{program_of}
-use Rattle.pool_search.specs.Entries.{entries}
 use Rattle.pool_search.specs.FoundOutcomes.{IsNoRun, IsShownRun}
 use Rattle.pool_search.specs.declared.outcomes.OutcomeRun.{OutcomeRun}
 use Rattle.pool_search.specs.declared.outcomes.OutcomeRun.TheVariants as R
