@@ -25,7 +25,7 @@ use Rattle.record_check.specs.VerdictText.{verdict_text}
 use Rattle.record_check.proofs.Laws.{labels_split, no_run, same_start}
 use Rattle.stream_check.specs.Followed.{EndsWith, IsJudged}
 use Rattle.stream_check.specs.declared.filling.Filling.{Filling}
-use Rattle.stream_check.specs.Filled.{AllAtRest, AreAtRest, AreInPlace, AreNumbered, HaveNoLocal, IsFilled, IsSame, TakesPart, without_local, without_local_of}
+use Rattle.stream_check.specs.Filled.{AllAtRest, AreAtRest, AreInPlace, AreNumbered, HaveNoLocal, IsFilled, IsSame, TakesPart, without_local}
 use Rattle.stream_check.specs.FillProgress.{Adds, AreFillsOf, Begins, Ends, Follows, Passes, Stops, with_done}
 use Rattle.stream_check.specs.FillingLines.{HasFilled}
 use Rattle.stream_check.proofs.FilledPlaces.{all_own, in_place_before, needed_at, own_in_place}

@@ -1,12 +1,11 @@
 -- The judge that fills in local transitions, before and after one more line.
-use Rattle.std.proofs.Common.{◌≡◌, ◌≢◌, ◌⊎◌, inl, inr, refl, sym, ap, ap₂, subst, ◌∙◌, ℕ, zero, suc, ◌<◌, List, [], ◌∷◌, ◌++◌, ◌||◌, replicate, Option, Some, None, Bool, true, false, append_assoc, append-nil, arith}
+use Rattle.std.proofs.Common.{◌≡◌, ◌≢◌, ◌⊎◌, inl, inr, refl, sym, ap, ap₂, subst, ◌∙◌, ℕ, zero, suc, ◌<◌, List, [], ◌∷◌, ◌++◌, replicate, Option, Some, None, Bool, true, false, append_assoc, append-nil, arith}
 use Rattle.text_scan.specs.Text.{Text}
 use Rattle.run_types.specs.declared.types.Label.{Label}
 use Rattle.run_types.specs.declared.types.Label.TheVariants as L
 use Rattle.run_types.specs.declared.types.What.TheVariants as W
 use Rattle.run_types.specs.declared.types.Event.{Event}
 use Rattle.run_types.specs.declared.types.End.{End}
-use Rattle.run_types.specs.declared.types.End.TheVariants as E
 use Rattle.run_types.specs.declared.types.Line.{Line}
 use Rattle.run_types.specs.declared.types.Line.TheVariants as R
 use Rattle.run_types.specs.declared.verdicts.Redex.{Redex}
@@ -29,17 +28,17 @@ use Rattle.stream_check.specs.declared.filling.Filling.{Filling}
 use Rattle.stream_check.specs.declared.judge.Lines.{Lines}
 use Rattle.stream_check.specs.Filled.{AllAtRest, AreAtRest, AreInPlace, AreNumbered, HaveNoLocal, IsAtRest, IsFull, IsFilled, shows_local, unnumbered_end, without_local, without_local_of}
 use Rattle.stream_check.specs.FilledStream.{IsFilledFront}
-use Rattle.stream_check.specs.FillingLines.{HasFilled, IsFilledAfter, IsFilledStop, IsFilledUpTo, IsReadyToFill, PassesLine, stop_text}
+use Rattle.stream_check.specs.FillingLines.{HasFilled, IsFilledAfter, IsFilledStop, IsFilledUpTo, IsReadyToFill, stop_text}
 use Rattle.stream_check.specs.FillProgress.{Passes, Quiets, Stops, number_after, renumbered, with_done}
-use Rattle.stream_check.specs.Followed.{IsFront, IsJudged}
+use Rattle.stream_check.specs.Followed.{IsJudged}
 use Rattle.stream_check.specs.Progress.{IsEndVerdict}
 use Rattle.stream_check.specs.Stream.{comes_next, has_end, next_number}
 use Rattle.stream_check.proofs.FilledPlaces.{own_in_place, own_renumbered}
-use Rattle.stream_check.proofs.FilledVerdict.{ended_in, led_to, stopped_in, told_in, whole, whole_end}
+use Rattle.stream_check.proofs.FilledVerdict.{ended_in, led_to, stopped_in, told_in, whole}
 use Rattle.stream_check.proofs.GrownLines.{grows_line}
 use Rattle.stream_check.proofs.KeptLines.{kept_renumbered, local_gone, numbered_push, own_kept, shown_renumbered, without_split}
 use Rattle.stream_check.proofs.LineWrites.{end_without, writes_behind, writes_same}
-use Rattle.stream_check.proofs.NextLine.{end_behind, root_stays, with_steps}
+use Rattle.stream_check.proofs.NextLine.{end_behind, root_stays}
 use Rattle.stream_check.proofs.RootOfLines.{first_own, rooted}
 use Rattle.stream_check.proofs.StreamRows.{last_behind}
 

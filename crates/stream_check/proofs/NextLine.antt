@@ -192,6 +192,10 @@ module _ (p : ProgramTree) (ls : List Line) (e : End) (d : Configuration) where
       none : (k : ℕ) → k < o → (lab : Label) → agent lab ≡ k → (c : Configuration) → transition p d lab ≡ Some c → ⊥
       none k i lab s c z = let w : None ≡ Some c = sym (least lab (subst (λ (n : ℕ). n < o) (sym s) i)) ∙ z in cc
 
+-- the line with the number of its name has its number
+pub number_told : (names : List Text) (last : ℕ) (t : Told) (l : Line) → l ≡ numbered names t → comes_next last t.line ≡ true → comes_next last l ≡ true
+number_told names last t l same next = ap (comes_next last) same ∙ (number_kept names last t.text t.line ∙ next)
+
 -- a line of a text is judged as its line with the number of its name
 pub judged_line : (p : ProgramTree) (names : List Text) (ls : List Line) (last : ℕ) (o : Option Told) (t : Told) (l : Line) (v w : Option Verdict) (text : Text) (j : Lines) → Some t ≡ o → comes_next last t.line ≡ true
     → l ≡ numbered names t → (comes_next last l ≡ true → IsVerdictAt p ls l j v) → v ≡ w → text ≡ judged_text names l w → IsJudgedLine p names ls last o w text j
@@ -201,6 +205,6 @@ judged_line p names ls last o t l v w text j is next same verdict found writes =
       is = sym is;
       next = next;
       verdict = subst (λ (x : Option Verdict). IsVerdictAt p ls (numbered names t) j x) found
-          (subst (λ (x : Line). IsVerdictAt p ls x j v) same (verdict (ap (comes_next last) same ∙ (number_kept names last t.text t.line ∙ next))));
+          (subst (λ (x : Line). IsVerdictAt p ls x j v) same (verdict (number_told names last t l same next)));
       writes = writes ∙ ap (λ x. judged_text names x w) same;
     }

@@ -1,5 +1,5 @@
 -- What a judge has read, if it reads on, is the front of a run.
-use Rattle.std.proofs.Common.{◌≡◌, refl, ℕ, List, None, Bool, true, false}
+use Rattle.std.proofs.Common.{◌≡◌, refl, List, None, Bool, true, false}
 use Rattle.text_scan.specs.Text.{Text}
 use Rattle.run_types.specs.declared.types.Line.{Line}
 use Rattle.pool_syntax.specs.Terms.{ProgramTree}

@@ -1,5 +1,5 @@
 -- The judge of a stream before and after one more whole line.
-use Rattle.std.proofs.Common.{◌≡◌, ◌≢◌, refl, sym, ap, subst, ◌∙◌, ℕ, zero, suc, List, [], ◌∷◌, ◌++◌, map, replicate, Option, Some, None, Bool, true, false, append_assoc, append-nil, arith}
+use Rattle.std.proofs.Common.{◌≡◌, ◌≢◌, refl, sym, ap, subst, ◌∙◌, ℕ, zero, suc, List, [], ◌∷◌, ◌++◌, map, replicate, Option, Some, None, Bool, true, false, append_assoc, append-nil, arith, if◌then◌else◌}
 use Rattle.std.proofs.lemmas.List.{map-append}
 use Rattle.text_scan.specs.Text.{Text}
 use Rattle.run_types.specs.declared.types.End.{End}
@@ -14,12 +14,13 @@ use Rattle.pool_relation.specs.Transition.{start}
 use Rattle.pool_relation.proofs.Laws.{joined}
 use Rattle.mesh_semantics.specs.Record.{labels, labels_of}
 use Rattle.pool_semantics.specs.PlainOf.{configuration_of}
-use Rattle.record_writer.specs.WrittenText.{writes_of, writes_text}
+use Rattle.record_writer.specs.WrittenText.{writes_text}
 use Rattle.record_check.specs.RecordJudgement.{IsRunOf, LeadsTo, StillMoves, root}
 use Rattle.record_check.specs.Verdicts.{StopsLine}
 use Rattle.record_parser.specs.Fields.{fields, parts}
 use Rattle.record_parser.specs.Lines.{Told, line_of}
 use Rattle.run_record.specs.declared.fault.RecordFault.{RecordFault}
+use Rattle.run_record.specs.declared.fault.RecordFault.TheVariants as fault
 use Rattle.run_record.specs.Numbered.{numbered}
 use Rattle.run_record.specs.Records.{Rows, is_end, refused, with_told}
 use Rattle.stream_check.specs.declared.judge.Judge.{Judge}
@@ -28,9 +29,9 @@ use Rattle.stream_check.specs.declared.judge.Stop.{Stop}
 use Rattle.stream_check.specs.declared.judge.Stop.TheVariants as S
 use Rattle.stream_check.specs.Filled.{IsFilled}
 use Rattle.stream_check.specs.FilledStream.{IsFilledFront, IsFilledStream, IsFollowedBy}
-use Rattle.stream_check.specs.FillingLines.{IsFilledAfter}
+use Rattle.stream_check.specs.FillingLines.{IsFilledAfter, IsFilledLine}
 use Rattle.stream_check.specs.Followed.{IsFollowed, IsJudged}
-use Rattle.stream_check.specs.Progress.{HasRead, IsAfter, IsAfterBy, IsFilledAt, IsFilledTold, IsJudgedAt, IsJudgedBy, IsJudgedLine, StopsNext, last_part}
+use Rattle.stream_check.specs.Progress.{HasRead, IsAfter, IsAfterBy, IsFilledAt, IsFilledTold, IsJudgedAt, IsJudgedBy, IsJudgedLine, StopsNext, last_part, stop_by}
 use Rattle.stream_check.specs.Stream.{comes_next, fault_after, has_end, last_number, next_number, rows_after, stream_fault, stream_lines, stream_rows, whole_lines}
 use Rattle.stream_check.proofs.LineFeeds.{NoFeed, line_tail, tail_more, whole_line, whole_same}
 use Rattle.stream_check.proofs.StreamRows.{before, end_kept, no_rows, row_ended, row_faulty, row_goes, rows_join}
@@ -240,6 +241,26 @@ by_mode fills p ls mode j e a = subst (λ (b : Bool). IsAfterBy b p ls j) (sym e
 pub judged_by_mode : (fills : Bool) (p : ProgramTree) (names : List Text) (ls : List Line) (last : ℕ) (o : Option Told) (mode : Bool) (stop : Option Stop) (text : Text) (j : Lines) → mode ≡ fills
     → IsJudgedBy mode p names ls last o stop text j → IsJudgedBy fills p names ls last o stop text j
 judged_by_mode fills p names ls last o mode stop text j e g = subst (λ (b : Bool). IsJudgedBy b p names ls last o stop text j) e g
+
+-- a line with a fault is judged so in both ways
+pub faulty_by : (fills : Bool) (p : ProgramTree) (names : List Text) (ls : List Line) (last : ℕ) (o : Option Told) (f : RecordFault) (j : Lines) → fault_after last o ≡ Some f
+    → IsJudgedBy fills p names ls last o (Some (S.Faulty f)) [] j
+faulty_by true p names ls last o f j h = (h, refl)
+faulty_by false p names ls last o f j h = (h, refl)
+
+-- a line with another number
+pub out_of_order : (last : ℕ) (o : Option Told) (t : Told) (n : ℕ) → Some t ≡ o → comes_next last t.line ≡ false → n ≡ next_number last → fault_after last o ≡ Some (fault.OutOfOrder n)
+out_of_order last o t n is wrong number =
+    ap (fault_after last) (sym is) ∙ (ap (λ (b : Bool). if b then None else Some (fault.OutOfOrder (next_number last))) wrong ∙ ap (λ (m : ℕ). Some (fault.OutOfOrder m)) (sym number))
+
+-- a line of a text is judged as its line with the number of its name, with local transitions filled in
+pub filled_told : (p : ProgramTree) (names : List Text) (ls : List Line) (last : ℕ) (o : Option Told) (t : Told) (l : Line) (v : Option Verdict) (text : Text) (j : Lines) → Some t ≡ o
+    → comes_next last t.line ≡ true → l ≡ numbered names t → IsFilledLine p names ls l v text j → IsFilledAt p names ls last o (stop_by v) text j
+filled_told p names ls last o t l v text j is next same gives = by v (subst (λ (x : Line). IsFilledLine p names ls x v text j) same gives)
+  where
+    by : (w : Option Verdict) → IsFilledLine p names ls (numbered names t) w text j → IsFilledAt p names ls last o (stop_by w) text j
+    by None g = record { told = t; is = sym is; next = next; gives = g }
+    by (Some w) g = record { told = t; is = sym is; next = next; gives = g }
 
 -- what the judge has read of a piece, and what it has appended to the text
 pub record Reading (fills : Bool) (p : ProgramTree) (names : List Text) (s piece rest base now : Text) (j : Judge) : Type 0 where

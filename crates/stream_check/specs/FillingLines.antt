@@ -1,9 +1,8 @@
 -- What the code's judge holds after some lines of a stream, if it fills in local transitions, and what one more line
 -- gives.
-use Rattle.std.specs.Prelude.{◌≡◌, ◌≢◌, ℕ, List, [], ◌∷◌, ◌++◌, Option, Some, None, Bool, true, false}
+use Rattle.std.specs.Prelude.{◌≡◌, ◌≢◌, ℕ, List, [], ◌∷◌, ◌++◌, Option, Some, None, true, false}
 use Rattle.text_scan.specs.Text.{Text}
 use Rattle.run_types.specs.declared.types.Line.{Line}
-use Rattle.run_types.specs.declared.types.Line.TheVariants as R
 use Rattle.run_types.specs.declared.verdicts.Verdict.{Verdict}
 use Rattle.run_types.specs.declared.verdicts.Verdict.TheVariants as V
 use Rattle.pool_syntax.specs.Terms.{ProgramTree}

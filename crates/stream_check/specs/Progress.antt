@@ -12,7 +12,6 @@ use Rattle.mesh_semantics.specs.Record.{labels}
 use Rattle.pool_semantics.specs.PlainOf.{configuration_of, program_tree, is_spent}
 use Rattle.record_writer.specs.WrittenText.{writes_of}
 use Rattle.record_check.specs.RecordJudgement.{IsRunOf, LeadsTo, StillMoves, root}
-use Rattle.record_check.specs.VerdictText.{verdict_text}
 use Rattle.record_check.specs.Verdicts.{StopsLine}
 use Rattle.record_parser.specs.Fields.{parts}
 use Rattle.record_parser.specs.Lines.{Told}

@@ -318,11 +318,7 @@ impl<'a> Lines<'a> {
 impl<'a> Judge<'a> {
     /// A judge that has read nothing. If it `fills`, it passes over the local transitions of the stream, and fills in those
     /// that must come first, as `fill_record` does. An error means out of memory.
-    pub fn make(
-        alloc: Global,
-        program: &Checked<'a>,
-        fills: bool,
-    ) -> Result<Judge<'a>, AllocError>
+    pub fn make(alloc: Global, program: &Checked<'a>, fills: bool) -> Result<Judge<'a>, AllocError>
         ensures { IfOk result (λ j. (names : List Text) → HasRead fills (program_of program.now.program.now) names [] j) }
     {
         let plain = Plain::make(alloc, program, 0)?;
