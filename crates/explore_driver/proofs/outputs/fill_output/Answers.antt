@@ -1,4 +1,4 @@
-use Rattle.std.proofs.Common.{◌≡◌, ◌∙◌, ◌<◌, ◌≤◌, ◌^◌, ℕ, Err, ap, arith, inl, length, [], ◌∷◌, refl, subst, sym}
+use Rattle.std.proofs.Common.{◌≡◌, ◌<◌, ◌≤◌, ◌^◌, ℕ, Err, ap, arith, inl, length, [], ◌∷◌, refl, subst, sym}
 use Rattle.pool_syntax.specs.Terms.{ProgramTree}
 use Rattle.pool_syntax.specs.TreeOf.{program_of}
 use Rattle.command_inputs.specs.declared.fault.Fault.{Fault}

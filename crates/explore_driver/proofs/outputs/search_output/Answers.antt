@@ -1,4 +1,4 @@
-use Rattle.std.proofs.Common.{◌≡◌, ◌∙◌, Err, ap, inl, refl, subst}
+use Rattle.std.proofs.Common.{◌≡◌, Err, ap, inl, refl, subst}
 use Rattle.pool_syntax.specs.Terms.{ProgramTree}
 use Rattle.pool_syntax.specs.TreeOf.{program_of}
 use Rattle.command_inputs.specs.declared.fault.Input.TheVariants as I

@@ -1,4 +1,4 @@
-use Rattle.std.proofs.Common.{◌≡◌, ◌∙◌, Some, inl, option_map, ap, sym, subst, refl}
+use Rattle.std.proofs.Common.{◌≡◌, ◌∙◌, Some, inl, option_map, ap, sym, refl}
 use Rattle.command_shell.proofs.Laws.{none_within, stays_for, usage_ends}
 use Rattle.explore_driver.specs.AskedRequest.{wanted}
 use Rattle.explore_driver.specs.Ends.{explore_program, inputs}

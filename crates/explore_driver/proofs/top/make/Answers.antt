@@ -1,4 +1,4 @@
-use Rattle.std.proofs.Common.{Some, inl, refl}
+use Rattle.std.proofs.Common.{inl, refl}
 use Rattle.command_shell.specs.Writing.{written}
 use Rattle.command_shell.proofs.Laws.{stop_completes, stop_ends, text_completes, text_ends, writes_as}
 use Rattle.explore_driver.specs.AskedRequest.{request}
