@@ -11,7 +11,7 @@ ghost use Rattle.command_shell.specs.Ends.{StaysWithin, WholeTextWritten};
 ghost use Rattle.command_shell.specs.Programs.{MayOpen};
 ghost use Rattle.command_shell.specs.Statuses.{code_of};
 ghost use Rattle.command_shell.specs.Writing.{writing};
-ghost use Rattle.explore_driver.specs.Ends.{Ends, IsServable, files_of, inputs};
+ghost use Rattle.explore_driver.specs.Ends.{EndsOf, IsServable, files_of, inputs};
 ghost use Rattle.explore_driver.specs.Words.{Request, request_of, texts_of};
 
 mod progress_line;
@@ -41,7 +41,7 @@ fn run<F: Files, K: Sink, E: Sink, P: Progress>(
 
     // The exit status is the number of the status with which the
     // call ends. Each has its cause, and the text on both sinks.
-    ensures ends { (status : Status) × (exit_status result ≡ code_of status) × Ends (request_of (texts_of words.now))
+    ensures ends { (status : Status) × (exit_status result ≡ code_of status) × EndsOf (texts_of words.now) (request_of (texts_of words.now))
         (reading F.told F.opens F.given F.live F.faults files.old files.new)
         (writing K.written K.faults out.old out.new)
         (writing E.written E.faults err.old err.new)

@@ -1,5 +1,5 @@
 -- How a call of `explore` ends: by the definition for programs, or in one of the ways of a stream that is followed.
-use Rattle.std.specs.Prelude.{◌≡◌, ◌⊎◌, ◌<◌, List, [], ◌∷◌, length, Option, Some, None, Bool, codes}
+use Rattle.std.specs.Prelude.{◌≡◌, ◌⊎◌, ◌<◌, List, [], ◌∷◌, length, Option, Some, None, Bool}
 use Rattle.text_scan.specs.Text.{Text}
 use Rattle.command_inputs.specs.declared.fault.Input.{Input}
 use Rattle.command_inputs.specs.declared.fault.Input.TheVariants as I
@@ -14,6 +14,7 @@ use Rattle.pool_outside.specs.Reading.{Reading, Told}
 use Rattle.pool_outside.specs.Writing.{Writing}
 use Rattle.explore_driver.specs.Following.{EndsFollowing, IsWholeStream, most_given}
 use Rattle.explore_driver.specs.Outputs.{IsOutput}
+use Rattle.explore_driver.specs.Unexpected.{usage_line, usage_text}
 use Rattle.explore_driver.specs.Words.{Request, of_fill, of_follow, of_search, of_watch}
 
 -- the inputs of a command with the names of their files, in the order of reading
@@ -40,20 +41,21 @@ HasFault [] I.Program s fault = HasTypedFault s fault
 HasFault (source ∷ []) I.Record s (F.Record fault) = (record_of s).fault ≡ Some fault
 HasFault _ _ s fault = ⊥
 
-abbrev pub usage_line : Text
-usage_line = codes "usage: explore search [stuck|fault] [all] P N, explore search writes P N, explore search run J P N, explore grade [--may-run-on] P N [OUTPUT].., explore watch P R [A B], explore waits|fill P R, explore follow [--fill] P [R]\n"
-
--- the program `explore`; it makes no text of an input itself
-abbrev pub explore_program : Program
-explore_program = record {
+-- the program `explore`, which says this where the arguments are not a command; it makes no text of an input itself
+abbrev pub program_saying : Text → Program
+program_saying usage = record {
   Request = Request;
   inputs = inputs;
   IsAccepted = IsAccepted;
   HasFault = HasFault;
   IsUnfit = λ r input fault. ⊥;
   IsOutput = IsOutput;
-  usage = usage_line;
+  usage = usage;
 }
+
+-- the program where no word of the arguments is named
+abbrev pub explore_program : Program
+explore_program = program_saying usage_line
 
 -- the call followed a stream
 pub record HasFollowed (words : Option Request) (files : Reading) (out err : Writing) (status : Status) : Type 0 where
@@ -65,6 +67,12 @@ pub record HasFollowed (words : Option Request) (files : Reading) (out err : Wri
 
 abbrev pub Ends : Option Request → Reading → Writing → Writing → Status → Type 0
 Ends words files out err status = Shell.Ends explore_program words files out err status ⊎ HasFollowed words files out err status
+
+-- A call with these arguments, which are this command. If they are none, the usage text names the first of them that fits
+-- nowhere, if there is one.
+abbrev pub EndsOf : List Text → Option Request → Reading → Writing → Writing → Status → Type 0
+EndsOf ws None files out err status = Shell.Ends (program_saying (usage_text ws)) None files out err status
+EndsOf ws (Some r) files out err status = Ends (Some r) files out err status
 
 -- a stream that is followed has fewer bytes than are counted, an end line, and no fault before it
 abbrev pub IsStreamServed : Told → Request → Type 0

@@ -1,5 +1,6 @@
 -- Believed: what a top call's contract reaches.
 pub mod Words
+pub mod Unexpected
 pub mod Outputs
 pub mod Following
 pub mod Ends

@@ -34,6 +34,15 @@ most_of Number.NotDigits = None
 most_of Number.TooLarge = None
 most_of (Number.Value k) = if nat_le 1 k && nat_le k 10000000 then Some k else None
 
+-- the bound where N is left out
+abbrev pub default_most : Text
+default_most = codes "1000000"
+
+-- a word that begins with a digit
+abbrev pub is_numeric : Text → Bool
+is_numeric [] = false
+is_numeric (b ∷ bs) = nat_le 48 b && nat_le b 57
+
 abbrev pub search_for : Target → Bool → Text → Text → Option Request
 search_for wanted all name n =
     if is_dashed name then None
@@ -49,20 +58,28 @@ run_for j name n =
     if is_dashed name then None
     else option_and_then (λ place. option_map (λ most. of_search (of_outcome place most) name) (most_of (decimal_of n))) (most_of (decimal_of j))
 
--- `stuck` or `fault`, or neither for both, and then `all`, which is optional; or `writes`; or `run` and the place of an
--- outcome. Then the name of a file, and a bound.
-abbrev pub search_of : List Text → Option Request
-search_of [] = None
-search_of (a ∷ []) = None
-search_of (name ∷ n ∷ []) = search_for W.Both false name n
-search_of (a ∷ name ∷ n ∷ []) =
+-- `all`, `writes`, or a kind of run
+abbrev pub search_by : Text → Text → Text → Option Request
+search_by a name n =
     if bytes_eq a (codes "all") then search_for W.Both true name n
     else if bytes_eq a (codes "writes") then outcomes_for name n
     else option_and_then (λ wanted. search_for wanted false name n) (wanted_of a)
-search_of (a ∷ b ∷ name ∷ n ∷ []) =
+
+-- `run` and the place of an outcome, or a kind of run and `all`
+abbrev pub search_with : Text → Text → Text → Text → Option Request
+search_with a b name n =
     if bytes_eq a (codes "run") then run_for b name n
     else if bytes_eq b (codes "all") then option_and_then (λ wanted. search_for wanted true name n) (wanted_of a)
     else None
+
+-- `stuck` or `fault`, or neither for both, and then `all`, which is optional; or `writes`; or `run` and the place of an
+-- outcome. Then the name of a file, and a bound, which is optional: the last of several words, if it begins with a digit.
+abbrev pub search_of : List Text → Option Request
+search_of [] = None
+search_of (a ∷ []) = search_for W.Both false a default_most
+search_of (a ∷ b ∷ []) = if is_numeric b then search_for W.Both false a b else search_by a b default_most
+search_of (a ∷ b ∷ c ∷ []) = if is_numeric c then search_by a b c else search_with a b c default_most
+search_of (a ∷ b ∷ c ∷ d ∷ []) = search_with a b c d
 search_of (a ∷ b ∷ c ∷ d ∷ e ∷ ws) = None
 
 -- the name of a file, a bound, and the outputs that are allowed

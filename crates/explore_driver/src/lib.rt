@@ -6,6 +6,7 @@
 mod follow;
 mod outputs;
 mod top;
+mod unexpected;
 mod words;
 
 pub use top::explore;

@@ -1,7 +1,7 @@
 //! Reads the arguments of a command.
 ghost use Rattle.std.specs.Prelude.{◌≡◌, [], ◌∷◌, option_map, IfSome};
 ghost use Rattle.text_scan.specs.Lines.{decimal_of};
-ghost use Rattle.explore_driver.specs.Words.{command_of, follow_of, followed_of, grade_of, graded_of, is_dashed, lines_of, most_of, of_fill, of_follow, of_watch, outcomes_for, pair_of, request_of, run_for, search_for, search_of, texts_of, wanted_of, watch_of};
+ghost use Rattle.explore_driver.specs.Words.{command_of, follow_of, followed_of, grade_of, graded_of, is_dashed, is_numeric, lines_of, most_of, of_fill, of_follow, of_watch, outcomes_for, pair_of, request_of, run_for, search_by, search_for, search_of, search_with, texts_of, wanted_of, watch_of};
 ghost use Rattle.explore_driver.specs.AskedRequest.{IsOrdered, IsSized, IsSizedCommand, request, wanted};
 
 use pool_search::{Query, Target};
@@ -12,6 +12,9 @@ use text_scan::{Decimal, decimal};
 const FEWEST: u64 = 1;
 
 const MOST: u64 = 10_000_000;
+
+/// The bound where it is left out.
+const MOST_BY_DEFAULT: &str = "1000000";
 
 /// The standard input, by its name as a file.
 const STANDARD_INPUT: &str = "/dev/stdin";
@@ -61,7 +64,7 @@ pub enum Command<'a> {
 }
 
 /// Whether an argument begins with `-`.
-fn is_dashed(word: &str) -> bool
+pub fn is_dashed(word: &str) -> bool
     ensures { result ≡ is_dashed word.now }
 {
     match word.as_bytes() {
@@ -70,8 +73,18 @@ fn is_dashed(word: &str) -> bool
     }
 }
 
+/// Whether an argument begins with a digit.
+pub fn is_numeric(word: &str) -> bool
+    ensures { result ≡ is_numeric word.now }
+{
+    match word.as_bytes() {
+        [first, ..] => b'0' <= *first && *first <= b'9',
+        [] => false,
+    }
+}
+
 /// The kind of run that the search looks for. None for other arguments.
-fn wanted_of(word: &str) -> Option<Target>
+pub fn wanted_of(word: &str) -> Option<Target>
     ensures { result ≡ wanted_of word.now }
 {
     match word {
@@ -82,7 +95,7 @@ fn wanted_of(word: &str) -> Option<Target>
 }
 
 /// The bound on the number of kept configurations. None if the argument is not a number from 1 to 10,000,000.
-fn most_of(word: &str) -> Option<u32>
+pub fn most_of(word: &str) -> Option<u32>
     ensures { result ≡ most_of (decimal_of word.now) }
 {
     match decimal(word.as_bytes()) {
@@ -154,9 +167,9 @@ fn run_for<'a>(place: &str, name: &'a str, word: &str) -> Option<Asked<'a>>
     }
 }
 
-/// The search of three arguments: `all`, `writes` or a kind of run, and then a name and a bound.
-fn search_of_three<'a>(first: &str, name: &'a str, word: &str) -> Option<Asked<'a>>
-    ensures request { option_map request result ≡ search_of (first.now ∷ name.entry.now ∷ word.now ∷ []) }
+/// The search of `all`, `writes` or a kind of run, and then a name and a bound.
+fn search_by<'a>(first: &str, name: &'a str, word: &str) -> Option<Asked<'a>>
+    ensures request { option_map request result ≡ search_by first.now name.entry.now word.now }
     ensures sized { IfSome result (λ asked. IsSized asked) }
 {
     if first == "all" {
@@ -171,10 +184,10 @@ fn search_of_three<'a>(first: &str, name: &'a str, word: &str) -> Option<Asked<'
     }
 }
 
-/// The search of four arguments: `run` and the place of an outcome, or a kind of run and `all`, and then a name and a
+/// The search of `run` and the place of an outcome, or a kind of run and `all`, and then a name and a
 /// bound.
-fn search_of_four<'a>(first: &str, second: &str, name: &'a str, word: &str) -> Option<Asked<'a>>
-    ensures request { option_map request result ≡ search_of (first.now ∷ second.now ∷ name.entry.now ∷ word.now ∷ []) }
+fn search_with<'a>(first: &str, second: &str, name: &'a str, word: &str) -> Option<Asked<'a>>
+    ensures request { option_map request result ≡ search_with first.now second.now name.entry.now word.now }
     ensures sized { IfSome result (λ asked. IsSized asked) }
 {
     if first == "run" {
@@ -189,15 +202,38 @@ fn search_of_four<'a>(first: &str, second: &str, name: &'a str, word: &str) -> O
     }
 }
 
+/// The search of two arguments. The second is the bound if it begins with a digit.
+fn search_of_two<'a>(first: &'a str, second: &'a str) -> Option<Asked<'a>>
+    ensures request { option_map request result ≡ search_of (first.entry.now ∷ second.entry.now ∷ []) }
+    ensures sized { IfSome result (λ asked. IsSized asked) }
+{
+    if is_numeric(second) {
+        return search_for(Target::Both, false, first, second);
+    }
+    search_by(first, second, MOST_BY_DEFAULT)
+}
+
+/// The search of three arguments. The third is the bound if it begins with a digit.
+fn search_of_three<'a>(first: &str, second: &'a str, third: &'a str) -> Option<Asked<'a>>
+    ensures request { option_map request result ≡ search_of (first.now ∷ second.entry.now ∷ third.entry.now ∷ []) }
+    ensures sized { IfSome result (λ asked. IsSized asked) }
+{
+    if is_numeric(third) {
+        return search_by(first, second, third);
+    }
+    search_with(first, second, third, MOST_BY_DEFAULT)
+}
+
 /// The search of the arguments after the first. None if they are not a search.
 fn search_of<'a>(words: &'a [String]) -> Option<Asked<'a>>
     ensures request { option_map request result ≡ search_of (texts_of words.now) }
     ensures sized { IfSome result (λ asked. IsSized asked) }
 {
     match words {
-        [name, most] => search_for(Target::Both, false, name.as_str(), most.as_str()),
-        [first, name, most] => search_of_three(first.as_str(), name.as_str(), most.as_str()),
-        [first, second, name, most] => search_of_four(
+        [name] => search_for(Target::Both, false, name.as_str(), MOST_BY_DEFAULT),
+        [first, second] => search_of_two(first.as_str(), second.as_str()),
+        [first, second, third] => search_of_three(first.as_str(), second.as_str(), third.as_str()),
+        [first, second, name, most] => search_with(
             first.as_str(),
             second.as_str(),
             name.as_str(),

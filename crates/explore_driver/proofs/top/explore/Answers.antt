@@ -1,8 +1,9 @@
-use Rattle.std.proofs.Common.{◌≡◌, ◌∙◌, Some, inl, option_map, ap, sym, refl}
-use Rattle.command_shell.proofs.Laws.{none_within, stays_for, usage_ends}
+use Rattle.std.proofs.Common.{◌≡◌, ◌∙◌, Some, option_map, ap, sym, refl}
+use Rattle.command_shell.proofs.Laws.{none_within, stays_for}
 use Rattle.explore_driver.specs.AskedRequest.{wanted}
-use Rattle.explore_driver.specs.Ends.{explore_program, inputs}
-use Rattle.explore_driver.specs.Words.{Request}
+use Rattle.explore_driver.specs.Ends.{inputs}
+use Rattle.explore_driver.specs.Words.{Request, request_of, texts_of}
+use Rattle.explore_driver.proofs.UsageLaws.{ends_as, says_usage}
 use Rattle.explore_driver.proofs.top.explore.Goals as goal
 
 same_request : (q r : Request) → Some q ≡ Some r → q ≡ r
@@ -10,7 +11,13 @@ same_request q r e = cc
 
 pub returns-in-None-clause-ends : goal.returns-in-None-clause-ends
 returns-in-None-clause-ends g c =
-    inl (usage_ends explore_program _ _ _ _ c.say.result (sym c.read_words.ensures.request ∙ ap (option_map wanted) c.in-None.is) refl refl c.say.ensures (refl, refl))
+    says_usage (texts_of c.args.words.now) (request_of (texts_of c.args.words.now)) _ _ _ c.say_usage.result (sym c.read_words.ensures.request ∙ ap (option_map wanted) c.in-None.is) refl refl c.say_usage.ensures
+    (refl, refl)
+
+pub returns-in-Some-clause-ends : goal.returns-in-Some-clause-ends
+returns-in-Some-clause-ends g c =
+    ends_as (texts_of c.args.words.now) (request_of (texts_of c.args.words.now)) (wanted c.in-Some.command) _ _ _ c.serve.result
+    (sym (ap (option_map wanted) c.in-Some.is) ∙ c.read_words.ensures.request) c.serve.ensures.ends
 
 pub returns-in-None-clause-stops_reading : goal.returns-in-None-clause-stops_reading
 returns-in-None-clause-stops_reading g c r words = none_within _ _ _ (inputs r) refl
