@@ -1,5 +1,5 @@
 -- How following a stream ends: what is read and written piece after piece, and the ends of the call that come of it.
-use Rattle.std.proofs.Common.{◌≡◌, ◌∙◌, ◌⊎◌, inl, inr, ℕ, ◌+◌, ◌<◌, ◌≤◌, ◌++◌, List, [], ◌∷◌, length, take, drop, min, map, Option, Some, None, option_map, IfSome, IfNone, true, false, refl, sym, ap, subst, append_assoc, arith}
+use Rattle.std.proofs.Common.{◌≡◌, ◌∙◌, ◌⊎◌, inl, inr, ℕ, ◌+◌, ◌<◌, ◌≤◌, ◌++◌, List, [], ◌∷◌, length, take, drop, min, map, Option, Some, None, option_map, IfSome, IfNone, Bool, true, false, refl, sym, ap, subst, append_assoc, arith}
 use Rattle.std.proofs.lemmas.Grind.{common_steps}
 use Rattle.std.proofs.lemmas.List.{length-append}
 use Rattle.std.specs.List.{list_any}
@@ -15,6 +15,7 @@ use Rattle.run_types.specs.declared.types.Line.TheVariants as L
 use Rattle.record_parser.specs.Lines as Parsed
 use Rattle.run_record.specs.Numbered.{numbered, numbered_by}
 use Rattle.run_record.specs.Records.{is_end}
+use Rattle.run_record.specs.declared.fault.RecordFault.{RecordFault}
 use Rattle.command_inputs.specs.declared.fault.Fault.{Fault}
 use Rattle.command_inputs.specs.declared.fault.Input.{Input}
 use Rattle.command_inputs.specs.declared.fault.Input.TheVariants as I
@@ -35,9 +36,9 @@ use Rattle.stream_check.proofs.Laws.{same_fault}
 use Rattle.stream_check.specs.declared.judge.Judge.{Judge}
 use Rattle.stream_check.specs.declared.judge.Stop.{Stop}
 use Rattle.stream_check.specs.declared.judge.Stop.TheVariants as Why
-use Rattle.stream_check.specs.Followed.{IsFollowed}
+use Rattle.stream_check.specs.FilledStream.{IsFollowedBy}
 use Rattle.stream_check.specs.Progress.{HasRead}
-use Rattle.stream_check.specs.Stream.{has_end, stream_fault, stream_rows}
+use Rattle.stream_check.specs.Stream.{has_end, stream_fault, stream_lines, stream_rows}
 use Rattle.explore_driver.proofs.OutputLaws.{verdict_whole}
 use Rattle.explore_driver.specs.declared.follow.Followed.{Followed}
 use Rattle.explore_driver.specs.declared.follow.Followed.TheVariants as E
@@ -85,9 +86,9 @@ none_read (Some t) = (t, refl)
 
 -- What holds between two reads of an open stream: these bytes were read of its text, in at least as many bytes as reads; the
 -- judge goes on after them, and what they write is on the sink.
-pub record ReadSoFar (p : ProgramTree) (names : List Text) (judge : Judge) (first rest : Option Text) (given reads : ℕ) (w : Writing) : Type 0 where
+pub record ReadSoFar (fills : Bool) (p : ProgramTree) (names : List Text) (judge : Judge) (first rest : Option Text) (given reads : ℕ) (w : Writing) : Type 0 where
   pub bytes : Text
-  pub read : HasRead p names bytes judge
+  pub read : HasRead fills p names bytes judge
   pub front : first ≡ option_map (λ r. bytes ++ r) rest
   pub given_is : given ≡ min (length bytes) most_given
   pub counted : reads ≤ length bytes
@@ -104,17 +105,17 @@ then_cut v w s t at count a b = record {
 }
 
 -- the same end, counted from an earlier moment
-pub stream_since : (p : ProgramTree) (names : List Text) (n : Text) (k : Reading) (w : Writing) (result : Followed) (told : Told) (opens count : ℕ) → k.told ≡ told → k.faults ≡ count → StreamEnds p names n k w result
-    → StreamEnds p names n (record k { told = told; opens = opens; faults = count }) w result
-stream_since p names n k w result told opens count t f h =
-    subst (λ (x : ℕ). StreamEnds p names n (record k { told = told; opens = opens; faults = x }) w result) f
-    (subst (λ (x : Told). StreamEnds p names n (record k { told = x; opens = opens }) w result) t (same result h))
+pub stream_since : (fills : Bool) (p : ProgramTree) (names : List Text) (n : Text) (k : Reading) (w : Writing) (result : Followed) (told : Told) (opens count : ℕ) → k.told ≡ told → k.faults ≡ count → StreamEnds fills p names n k w result
+    → StreamEnds fills p names n (record k { told = told; opens = opens; faults = count }) w result
+stream_since fills p names n k w result told opens count t f h =
+    subst (λ (x : ℕ). StreamEnds fills p names n (record k { told = told; opens = opens; faults = x }) w result) f
+    (subst (λ (x : Told). StreamEnds fills p names n (record k { told = x; opens = opens }) w result) t (same result h))
   where
-    same : (result : Followed) → StreamEnds p names n k w result → StreamEnds p names n (record k { opens = opens }) w result
+    same : (result : Followed) → StreamEnds fills p names n k w result → StreamEnds fills p names n (record k { opens = opens }) w result
     same (E.Judged v) h = (h.0, h.1, h.2, record { front = h.3.front; given = h.3.given }, h.4, h.5)
     same (E.Stopped (T.Refused i f)) h = (h.0, h.1, h.2, refuses h.3, h.4, h.5)
       where
-        refuses : Refuses p names n k h.0 h.1 f → Refuses p names n (record k { opens = opens }) h.0 h.1 f
+        refuses : Refuses fills p names n k h.0 h.1 f → Refuses fills p names n (record k { opens = opens }) h.0 h.1 f
         refuses (R.faulty g e follows given) = R.faulty g e follows (record { front = given.front; given = given.given })
         refuses (R.ended e follows given ends) = R.ended e follows (record { front = given.front; given = given.given }) (record { ended = ends.ended; whole = ends.whole; calm = ends.calm })
         refuses (R.too_long e follows given most) = R.too_long e follows (record { front = given.front; given = given.given }) most
@@ -122,25 +123,45 @@ stream_since p names n k w result told opens count t f h =
     same (E.Stopped T.Memory) h = h
     same E.Unwritten h = (h.0, h.1, h.2, h.3, record { front = h.4.front; given = h.4.given }, h.5)
 
--- what is written of a piece that was read, by where the judge stops
-pub piece_made : (p : ProgramTree) (names : List Text) (s piece : Text) (w : Writing) (judge : Judge) (stop : Option Stop) (more : Text)
-    → IsFollowed p names (s ++ piece) (so_far names s ++ more) stop → IfNone stop (HasRead p names (s ++ piece) judge) → Wrote w more → PieceEnds p names s piece w judge (end_by stop)
-piece_made p names s piece w judge None more follows read wrote = (more, follows, wrote, read)
-piece_made p names s piece w judge (Some (Why.Judged v)) more follows read wrote = (more, follows, wrote)
-piece_made p names s piece w judge (Some (Why.Faulty f)) more follows read wrote = (f, more, refl, refl, follows, wrote)
+-- the same end, of a judge that was made to fill in local transitions, or not to
+pub ends_as : (fills mode : Bool) (p q : ProgramTree) (names : List Text) (n : Text) (k : Reading) (w : Writing) (result : Followed) → mode ≡ fills → p ≡ q → StreamEnds mode p names n k w result → StreamEnds fills q names n k w result
+ends_as fills mode p q names n k w result e f h = subst (λ (b : Bool). StreamEnds b q names n k w result) e (subst (λ (t : ProgramTree). StreamEnds mode t names n k w result) f h)
 
-pub piece_cut : (p : ProgramTree) (names : List Text) (s piece : Text) (w : Writing) (judge : Judge) (stop : Option Stop) (more : Text)
-    → IsFollowed p names (s ++ piece) (so_far names s ++ more) stop → WroteFront w more → PieceEnds p names s piece w judge (Some E.Unwritten)
-piece_cut p names s piece w judge stop more follows front = (more, stop, follows, front)
+pub read_as : (fills : Bool) (p : ProgramTree) (names : List Text) (s : Text) (j : Judge) → HasRead fills p names s j → HasRead j.fills p names s j
+read_as fills p names s j r = subst (λ (b : Bool). HasRead b p names s j) (sym r.mode) r
+
+-- what is written of a piece that was read, by where the judge stops
+pub piece_made : (fills : Bool) (p : ProgramTree) (names : List Text) (s piece : Text) (w : Writing) (judge : Judge) (stop : Option Stop) (more : Text)
+    → IsFollowedBy fills p names (s ++ piece) (so_far names s ++ more) stop → IfNone stop (HasRead fills p names (s ++ piece) judge) → Wrote w more → PieceEnds fills p names s piece w judge (end_by stop)
+piece_made fills p names s piece w judge None more follows read wrote = (more, follows, wrote, read)
+piece_made fills p names s piece w judge (Some (Why.Judged v)) more follows read wrote = (more, follows, wrote)
+piece_made fills p names s piece w judge (Some (Why.Faulty f)) more follows read wrote = (f, more, refl, refl, follows, wrote)
+
+pub piece_cut : (fills : Bool) (p : ProgramTree) (names : List Text) (s piece : Text) (w : Writing) (judge : Judge) (stop : Option Stop) (more : Text)
+    → IsFollowedBy fills p names (s ++ piece) (so_far names s ++ more) stop → WroteFront w more → PieceEnds fills p names s piece w judge (Some E.Unwritten)
+piece_cut fills p names s piece w judge stop more follows front = (more, stop, follows, front)
+
+-- what is known of the stream, with local transitions filled in or without
+text_of : (fills : Bool) (p : ProgramTree) (names : List Text) (s text : Text) → IsFollowedBy fills p names s text None → text ≡ so_far names s
+text_of true p names s text h = h.3
+text_of false p names s text h = h.3
+
+unended_of : (fills : Bool) (p : ProgramTree) (names : List Text) (s text : Text) → IsFollowedBy fills p names s text None → has_end (stream_lines names s) ≡ false
+unended_of true p names s text h = h.1
+unended_of false p names s text h = h.1
+
+fault_of : (fills : Bool) (p : ProgramTree) (names : List Text) (s text : Text) (f : RecordFault) → IsFollowedBy fills p names s text (Some (Why.Faulty f)) → stream_fault s ≡ Some f
+fault_of true p names s text f h = h.0
+fault_of false p names s text f h = h.0
 
 -- a piece is read and judged after the bytes s
 
-module _ (p : ProgramTree) (names : List Text) (n : Text) (k : Reading) (v w : Writing) (s piece : Text) (judge : Judge) (joint : w.before ≡ v.after) (count : w.faults ≡ v.failed) (earlier : Wrote v (so_far names s)) where
+module _ (fills : Bool) (p : ProgramTree) (names : List Text) (n : Text) (k : Reading) (v w : Writing) (s piece : Text) (judge : Judge) (joint : w.before ≡ v.after) (count : w.faults ≡ v.failed) (earlier : Wrote v (so_far names s)) where
   abbrev all : Writing
   all = record { before = v.before; after = w.after; faults = v.faults; failed = w.failed }
 
   -- an end that comes of it is an end of the stream
-  pub piece_ends : (result : Followed) → PieceEnds p names s piece w judge (Some result) → IsFollowed p names s (so_far names s) None → HasCome k n (s ++ piece) → IsFrontOf k n s → AllRead k → StreamEnds p names n k all result
+  pub piece_ends : (result : Followed) → PieceEnds fills p names s piece w judge (Some result) → IsFollowedBy fills p names s (so_far names s) None → HasCome k n (s ++ piece) → IsFrontOf k n s → AllRead k → StreamEnds fills p names n k all result
   piece_ends (E.Judged x) h follows given front calm = (s ++ piece, so_far names s ++ h.0, h.1, given, calm, both_wrote v w (so_far names s) h.0 joint count earlier h.2)
   piece_ends (E.Stopped (T.Refused i f)) h follows given front calm =
       (s ++ piece, so_far names s ++ h.1, h.2, R.faulty h.0 h.3 h.4 given, calm, both_wrote v w (so_far names s) h.1 joint count earlier h.5)
@@ -150,26 +171,26 @@ module _ (p : ProgramTree) (names : List Text) (n : Text) (k : Reading) (v w : W
   piece_ends E.Unwritten h follows given front calm = (s ++ piece, so_far names s ++ h.0, h.1, h.2, given, then_cut v w (so_far names s) h.0 joint count earlier h.3)
 
   -- the text so far, if the stream goes on
-  pub piece_goes : PieceEnds p names s piece w judge None → Wrote all (so_far names (s ++ piece))
-  piece_goes h = subst (λ (t : Text). Wrote all t) h.1.3 (both_wrote v w (so_far names s) h.0 joint count earlier h.2)
+  pub piece_goes : PieceEnds fills p names s piece w judge None → Wrote all (so_far names (s ++ piece))
+  piece_goes h = subst (λ (t : Text). Wrote all t) (text_of fills p names (s ++ piece) (so_far names s ++ h.0) h.1) (both_wrote v w (so_far names s) h.0 joint count earlier h.2)
 
 -- how the call ends by the end of its stream
 
-module _ (name n : Text) (k : Reading) (out err : Writing) (source : Text) (read : IsReadAs k.told I.Program name source) (names : List Text) (p : ProgramTree) (parsed : IsParsed source names p) (typed : faults p ≡ []) (opened : k.opened ≡ k.opens + 2) where
-  abbrev judged_so : (s text : Text) (stop : Option Stop) → IsFollowed p names s text stop → HasJudged name k s text stop
+module _ (fills : Bool) (name n : Text) (k : Reading) (out err : Writing) (source : Text) (read : IsReadAs k.told I.Program name source) (names : List Text) (p : ProgramTree) (parsed : IsParsed source names p) (typed : faults p ≡ []) (opened : k.opened ≡ k.opens + 2) where
+  abbrev judged_so : (s text : Text) (stop : Option Stop) → IsFollowedBy fills p names s text stop → HasJudged fills name k s text stop
   judged_so s text stop h = record { source = source; read = read; names = names; program = p; parsed = parsed; typed = typed; opened = opened; follows = h }
 
-  line_told : (s text line : Text) (planned status : Status) → Tells name n k s text line planned → Wrote out text → Writes err line planned status → EndsFollowing name n k out err status
-  line_told s text line planned status tells wrote (W.whole whole e) = Z.told s text line (subst (λ (x : Status). Tells name n k s text line x) (sym e) tells) wrote whole
+  line_told : (s text line : Text) (planned status : Status) → Tells fills name n k s text line planned → Wrote out text → Writes err line planned status → EndsFollowing fills name n k out err status
+  line_told s text line planned status tells wrote (W.whole whole e) = Z.told s text line (subst (λ (x : Status). Tells fills name n k s text line x) (sym e) tells) wrote whole
   line_told s text line planned status tells wrote (W.cut front e) = Z.line_cut s text line planned tells wrote front e
 
-  pub verdict_ends : (v : _) (status : Status) → StreamEnds p names n k out (E.Judged v) → IsIdle err → status ≡ status_of_verdict v → EndsFollowing name n k out err status
+  pub verdict_ends : (v : _) (status : Status) → StreamEnds fills p names n k out (E.Judged v) → IsIdle err → status ≡ status_of_verdict v → EndsFollowing fills name n k out err status
   verdict_ends v status h idle e = Z.judged h.0 h.1 v (judged_so h.0 h.1 (Some (Why.Judged v)) h.2) h.3 h.4 h.5 idle e
 
-  pub cut_ends : (status : Status) → StreamEnds p names n k out E.Unwritten → IsIdle err → status ≡ S.WriteFault → EndsFollowing name n k out err status
+  pub cut_ends : (status : Status) → StreamEnds fills p names n k out E.Unwritten → IsIdle err → status ≡ S.WriteFault → EndsFollowing fills name n k out err status
   cut_ends status h idle e = Z.cut h.0 h.1 h.2 (judged_so h.0 h.1 h.2 h.3) h.4 h.5 idle e
 
-  refused_ends : (f : Fault) (status : Status) (s text : Text) → Refuses p names n k s text f → AllRead k → Wrote out text → Writes err (refusal_line I.Record f) S.Refused status → EndsFollowing name n k out err status
+  refused_ends : (f : Fault) (status : Status) (s text : Text) → Refuses fills p names n k s text f → AllRead k → Wrote out text → Writes err (refusal_line I.Record f) S.Refused status → EndsFollowing fills name n k out err status
   refused_ends f status s text (R.faulty g e follows given) calm wrote w =
       line_told s text (refusal_line I.Record f) S.Refused status (Z.faulty g (judged_so s text (Some (Why.Faulty g)) follows) given calm (ap (refusal_line I.Record) e) refl) wrote w
   refused_ends f status s text (R.ended e follows given ends) calm wrote w =
@@ -177,16 +198,16 @@ module _ (name n : Text) (k : Reading) (out err : Writing) (source : Text) (read
   refused_ends f status s text (R.too_long e follows given most) calm wrote w =
       line_told s text (refusal_line I.Record f) S.Refused status (Z.too_long (judged_so s text None follows) given most calm (ap (refusal_line I.Record) e) refl) wrote w
 
-  forgotten : (s text : Text) (stop : Option Stop) (status : Status) → IsFollowed p names s text stop → IsFrontOf k n s → Wrote out text → IsIdle err → status ≡ S.Memory → EndsFollowing name n k out err status
+  forgotten : (s text : Text) (stop : Option Stop) (status : Status) → IsFollowedBy fills p names s text stop → IsFrontOf k n s → Wrote out text → IsIdle err → status ≡ S.Memory → EndsFollowing fills name n k out err status
   forgotten s text stop status follows front wrote idle e = Z.memory s text stop (judged_so s text stop follows) front wrote idle e
 
-  refused_front : (f : Fault) (s text : Text) → Refuses p names n k s text f → (stop : Option Stop) × IsFollowed p names s text stop × IsFrontOf k n s
+  refused_front : (f : Fault) (s text : Text) → Refuses fills p names n k s text f → (stop : Option Stop) × IsFollowedBy fills p names s text stop × IsFrontOf k n s
   refused_front f s text (R.faulty g e follows given) = (Some (Why.Faulty g), follows, given.front)
   refused_front f s text (R.ended e follows given ends) = (None, follows, given.front)
   refused_front f s text (R.too_long e follows given most) = (None, follows, given.front)
 
   -- the line of an error, or no memory for it
-  pub stopped_ends : (stop : InputError) (status : Status) → StreamEnds p names n k out (E.Stopped stop) → ReportsInputError err stop status → EndsFollowing name n k out err status
+  pub stopped_ends : (stop : InputError) (status : Status) → StreamEnds fills p names n k out (E.Stopped stop) → ReportsInputError err stop status → EndsFollowing fills name n k out err status
   stopped_ends (T.Refused i f) status h (D.refusal input g e w) =
       let at : input ≡ I.Record = (let x : i ≡ input = cc in sym x ∙ h.2) in
       let why : g ≡ f = cc in
@@ -214,7 +235,7 @@ ends_among : (names : List Text) (ts : List Parsed.Told) → has_end (map (numbe
 ends_among names [] = refl
 ends_among names (t ∷ ts) = rw (numbered_end names t.text t.line, ends_among names ts) refl
 
-module _ (name n : Text) (k : Reading) (whole : Text) (is : k.told n ≡ Some whole) (short : length whole < most_given) (served : IsWholeStream whole) (read : ¬ (Rose k.faults k.failed)) where
+module _ (fills : Bool) (name n : Text) (k : Reading) (whole : Text) (is : k.told n ≡ Some whole) (short : length whole < most_given) (served : IsWholeStream whole) (read : ¬ (Rose k.faults k.failed)) where
   front_of : (s : Text) → IsFrontOf k n s → (r : Text) × (whole ≡ s ++ r)
   front_of s h = subst (λ (o : Option Text). IfSome o (λ t. (r : Text) × (t ≡ s ++ r))) is h
 
@@ -224,18 +245,18 @@ module _ (name n : Text) (k : Reading) (whole : Text) (is : k.told n ≡ Some wh
   too_few : (s r : Text) → whole ≡ s ++ r → min (length s) most_given ≡ most_given → ⊥
   too_few s r e m = let l : length whole ≡ length s + length r = ap length e ∙ length-append s r in grind (arith, common_steps, short, l, m)
 
-  never_told : (s text line : Text) (status : Status) → Tells name n k s text line status → ⊥
+  never_told : (s text line : Text) (status : Status) → Tells fills name n k s text line status → ⊥
   never_told s text line status (Z.faulty f j given calm e st) =
       let r = front_of s given.front in
-      let z : Some f ≡ None = sym (same_fault s r.0 f j.follows.0) ∙ ap stream_fault (sym r.1) ∙ served.0 in
+      let z : Some f ≡ None = sym (same_fault s r.0 f (fault_of fills j.program j.names s text f j.follows)) ∙ ap stream_fault (sym r.1) ∙ served.0 in
       cc
   never_told s text line status (Z.ended j given ends e st) =
-      let z : true ≡ false = sym served.1 ∙ ap (λ t. list_any (λ u. is_end u.line) (stream_rows t).told) (all_of s ends.whole) ∙ sym (ends_among j.names (stream_rows s).told) ∙ j.follows.1 in
+      let z : true ≡ false = sym served.1 ∙ ap (λ t. list_any (λ u. is_end u.line) (stream_rows t).told) (all_of s ends.whole) ∙ sym (ends_among j.names (stream_rows s).told) ∙ unended_of fills j.program j.names s text j.follows in
       cc
   never_told s text line status (Z.too_long j given most calm e st) = let r = front_of s given.front in too_few s r.0 r.1 (sym given.given ∙ most)
   never_told s text line status (Z.unread j given rose e st) = read rose
 
-  pub following_completes : (out err : Writing) (status : Status) → EndsFollowing name n k out err status → ¬ (Rose out.faults out.failed) → ¬ (Rose err.faults err.failed) → WholeTextWritten status ⊎ (status ≡ S.Memory)
+  pub following_completes : (out err : Writing) (status : Status) → EndsFollowing fills name n k out err status → ¬ (Rose out.faults out.failed) → ¬ (Rose err.faults err.failed) → WholeTextWritten status ⊎ (status ≡ S.Memory)
   following_completes out err status (Z.judged s text v j given calm wrote idle e) w t = inl (subst WholeTextWritten (sym e) (verdict_whole v))
   following_completes out err status (Z.told s text line tells wrote said) w t = absurd (never_told s text line status tells)
   following_completes out err status (Z.line_cut s text line planned tells wrote front e) w t = absurd (t front.rose)

@@ -186,4 +186,4 @@ output_whole (of_fill name other) [] text s h = absurd h
 output_whole (of_fill name other) (p ∷ []) text s h = absurd h
 output_whole (of_fill name other) (p ∷ t ∷ []) text s h = subst WholeTextWritten (sym h.ended) (verdict_whole h.verdict)
 output_whole (of_fill name other) (p ∷ t ∷ u ∷ us) text s h = absurd h
-output_whole (of_follow name other) texts text s h = absurd h
+output_whole (of_follow fills name other) texts text s h = absurd h

@@ -18,7 +18,7 @@ request (A.Fill program record_name) = of_fill program.now record_name.now
 -- the request of a command
 abbrev pub wanted : Command → Request
 wanted (C.Make asked) = request asked
-wanted (C.Follow program stream_name) = of_follow program.now stream_name.now
+wanted (C.Follow fills program stream_name) = of_follow fills program.now stream_name.now
 
 -- the first line is at least 1 and no later than the last
 abbrev pub IsOrdered : Shown → Type 0
@@ -33,4 +33,4 @@ IsSized (A.Fill program record_name) = Unit {0}
 
 abbrev pub IsSizedCommand : Command → Type 0
 IsSizedCommand (C.Make asked) = IsSized asked
-IsSizedCommand (C.Follow program stream_name) = Unit {0}
+IsSizedCommand (C.Follow fills program stream_name) = Unit {0}

@@ -1,5 +1,5 @@
 -- How a call of `explore` ends: by the definition for programs, or in one of the ways of a stream that is followed.
-use Rattle.std.specs.Prelude.{◌≡◌, ◌⊎◌, ◌<◌, List, [], ◌∷◌, length, Option, Some, None}
+use Rattle.std.specs.Prelude.{◌≡◌, ◌⊎◌, ◌<◌, List, [], ◌∷◌, length, Option, Some, None, Bool}
 use Rattle.text_scan.specs.Text.{Text}
 use Rattle.command_inputs.specs.declared.fault.Input.{Input}
 use Rattle.command_inputs.specs.declared.fault.Input.TheVariants as I
@@ -22,11 +22,11 @@ abbrev pub inputs : Request → List (Input × Text)
 inputs (of_search question name) = (I.Program, name) ∷ []
 inputs (of_watch shown name record_name) = (I.Program, name) ∷ (I.Record, record_name) ∷ []
 inputs (of_fill name record_name) = (I.Program, name) ∷ (I.Record, record_name) ∷ []
-inputs (of_follow name stream_name) = (I.Program, name) ∷ []
+inputs (of_follow fills name stream_name) = (I.Program, name) ∷ []
 
 -- the files that a command opens, in order: its inputs, and a stream, which has no limit
 abbrev pub files_of : Request → List (Input × Text)
-files_of (of_follow name stream_name) = (I.Program, name) ∷ (I.Record, stream_name) ∷ []
+files_of (of_follow fills name stream_name) = (I.Program, name) ∷ (I.Record, stream_name) ∷ []
 files_of r = inputs r
 
 -- the text is accepted as this input, given the texts of the inputs before it
@@ -59,10 +59,11 @@ explore_program = program_saying usage_line
 
 -- the call followed a stream
 pub record HasFollowed (words : Option Request) (files : Reading) (out err : Writing) (status : Status) : Type 0 where
+  pub fills : Bool
   pub name : Text
   pub stream_name : Text
-  pub asked : words ≡ Some (of_follow name stream_name)
-  pub ends : EndsFollowing name stream_name files out err status
+  pub asked : words ≡ Some (of_follow fills name stream_name)
+  pub ends : EndsFollowing fills name stream_name files out err status
 
 abbrev pub Ends : Option Request → Reading → Writing → Writing → Status → Type 0
 Ends words files out err status = Shell.Ends explore_program words files out err status ⊎ HasFollowed words files out err status
@@ -75,7 +76,7 @@ EndsOf ws (Some r) files out err status = Ends (Some r) files out err status
 
 -- a stream that is followed has fewer bytes than are counted, an end line, and no fault before it
 abbrev pub IsStreamServed : Told → Request → Type 0
-IsStreamServed told (of_follow name stream_name) = (s : Text) × (told stream_name ≡ Some s) × (length s < most_given) × IsWholeStream s
+IsStreamServed told (of_follow fills name stream_name) = (s : Text) × (told stream_name ≡ Some s) × (length s < most_given) × IsWholeStream s
 IsStreamServed told r = Unit {0}
 
 -- all inputs of the command are accepted

@@ -82,6 +82,11 @@ in_pair (a ∷ []) = no_name a
 in_pair (a ∷ b ∷ []) = option_or (no_name a) (no_name b)
 in_pair (a ∷ b ∷ c ∷ ws) = option_or (no_name a) (option_or (no_name b) (Some c))
 
+-- `--fill`, which is optional, and two names
+abbrev pub in_follow : List Text → Option Text
+in_follow [] = None
+in_follow (w ∷ ws) = if bytes_eq w (codes "--fill") then in_pair ws else in_pair (w ∷ ws)
+
 -- two names and the numbers of two lines
 abbrev pub in_lines : Text → Text → Text → Text → Option Text
 in_lines a b c d = option_or (in_pair (a ∷ b ∷ [])) (option_or (no_line c 1 (decimal_of c)) (no_last (decimal_of c) d))
@@ -101,7 +106,7 @@ in_command c ws =
     else if bytes_eq c (codes "watch") then in_watch ws
     else if bytes_eq c (codes "waits") then in_pair ws
     else if bytes_eq c (codes "fill") then in_pair ws
-    else if bytes_eq c (codes "follow") then in_pair ws
+    else if bytes_eq c (codes "follow") then in_follow ws
     else Some c
 
 abbrev pub unexpected : List Text → Option Text
@@ -109,7 +114,7 @@ unexpected [] = None
 unexpected (c ∷ ws) = in_command c ws
 
 abbrev pub usage_line : Text
-usage_line = codes "usage: explore search [stuck|fault] [all] P [N], explore search writes P [N], explore search run J P [N], explore grade [--may-run-on] P N [OUTPUT].., explore watch P R [A B], explore waits|fill P R, explore follow P [R]\n"
+usage_line = codes "usage: explore search [stuck|fault] [all] P [N], explore search writes P [N], explore search run J P [N], explore grade [--may-run-on] P N [OUTPUT].., explore watch P R [A B], explore waits|fill P R, explore follow [--fill] P [R]\n"
 
 abbrev pub question_line : Option Text → Text
 question_line None = []

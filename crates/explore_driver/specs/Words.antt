@@ -11,12 +11,13 @@ use Rattle.explore_driver.specs.declared.words.Shown.{Shown}
 use Rattle.explore_driver.specs.declared.words.Shown.TheVariants as Sh
 
 -- A command: a search of the program of this name; the record of this name, shown as a run of the program; the record
--- with local transitions filled in; or the stream of this name, followed as a run of the program.
+-- with local transitions filled in; or the stream of this name, followed as a run of
+-- the program, with local transitions filled in or without.
 pub data Request : Type 0 where
   of_search : (question : Inquiry) (name : Text) → Request
   of_watch : (shown : Shown) (name record_name : Text) → Request
   of_fill : (name record_name : Text) → Request
-  of_follow : (name stream_name : Text) → Request
+  of_follow : (fills : Bool) (name stream_name : Text) → Request
 
 -- an argument that begins with `-` is not a name
 abbrev pub is_dashed : Text → Bool
@@ -116,9 +117,14 @@ abbrev pub standard_input : Text
 standard_input = codes "/dev/stdin"
 
 -- the names of a program and a stream; without the second the stream is the standard input
+abbrev pub followed_of : Bool → List Text → Option Request
+followed_of fills (name ∷ []) = pair_of (of_follow fills) (name ∷ standard_input ∷ [])
+followed_of fills ws = pair_of (of_follow fills) ws
+
+-- `--fill`, which is optional, and then these
 abbrev pub follow_of : List Text → Option Request
-follow_of (name ∷ []) = pair_of of_follow (name ∷ standard_input ∷ [])
-follow_of ws = pair_of of_follow ws
+follow_of [] = None
+follow_of (w ∷ ws) = if bytes_eq w (codes "--fill") then followed_of true ws else followed_of false (w ∷ ws)
 
 -- the command of this word, with the arguments after it
 abbrev pub command_of : Text → List Text → Option Request

@@ -1,6 +1,6 @@
 //! Follows a stream as a run of a program: reads it piece by piece, and writes what comes of each piece before it reads
 //! the next.
-ghost use Rattle.std.specs.Prelude.{◌≡◌, ◌⊎◌, ◌<◌, ◌≤◌, ◌+◌, ◌-◌, ◌^◌, IfOk, IsTrue, [], Some, true, length, take};
+ghost use Rattle.std.specs.Prelude.{◌≡◌, ◌⊎◌, ◌<◌, ◌≤◌, ◌+◌, ◌-◌, ◌^◌, IfOk, IsTrue, [], Some, true, Bool, length, take};
 ghost use Rattle.text_scan.specs.Text.{Text};
 ghost use Rattle.pool_syntax.specs.TreeOf.{program_of};
 ghost use Rattle.pool_outside.specs.Outside.{Rose};
@@ -67,8 +67,8 @@ fn follow_piece<'a, K: Sink>(
     requires few { length names.now < 2 ^ 32 }
     requires fresh { IsFresh judge.old }
     requires within { taken ≤ length room.now }
-    ensures { (s : Text) → HasRead (program_of program.now.program.now) names.now s judge.old
-        → PieceEnds (program_of program.now.program.now) names.now s (take taken room.now) (writing K.written K.faults out.old out.new) judge.new result }
+    ensures { (fills : Bool) (s : Text) → HasRead fills (program_of program.now.program.now) names.now s judge.old
+        → PieceEnds fills (program_of program.now.program.now) names.now s (take taken room.now) (writing K.written K.faults out.old out.new) judge.new result }
 {
     let mut text = Vec::new(alloc);
     let stop = match judge.read(alloc, program, names, &room[..taken], &mut text) {
@@ -101,8 +101,8 @@ fn follow_open<'a, F: Files, K: Sink>(
     requires few { length names.now < 2 ^ 32 }
     requires live { F.live files.old ≡ true }
     requires given { F.given files.old ≡ 0 }
-    requires fresh { HasRead (program_of program.now.program.now) names.now [] judge.old }
-    ensures ends { (n : Text) → F.rest files.old ≡ F.told files.old n → StreamEnds (program_of program.now.program.now) names.now n
+    requires fresh { HasRead judge.old.fills (program_of program.now.program.now) names.now [] judge.old }
+    ensures ends { (n : Text) → F.rest files.old ≡ F.told files.old n → StreamEnds judge.old.fills (program_of program.now.program.now) names.now n
         (reading F.told F.opens F.given F.live F.faults files.old files.new) (writing K.written K.faults out.old out.new) result }
     ensures same_opens { F.opens files.new ≡ F.opens files.old }
     ensures same_texts { F.told files.new ≡ F.told files.old }
@@ -143,8 +143,8 @@ fn follow_stream<'a, F: Files, K: Sink>(
     requires few { length names.now < 2 ^ 32 }
     requires allowed { IsTrue (F.may files.old (F.opens files.old) name.now) }
     requires countable { F.opens files.old < 2 ^ 64 - 1 }
-    requires fresh { HasRead (program_of program.now.program.now) names.now [] judge.old }
-    ensures ends { StreamEnds (program_of program.now.program.now) names.now name.now
+    requires fresh { HasRead judge.old.fills (program_of program.now.program.now) names.now [] judge.old }
+    ensures ends { StreamEnds judge.old.fills (program_of program.now.program.now) names.now name.now
         (reading F.told F.opens F.given F.live F.faults files.old files.new) (writing K.written K.faults out.old out.new) result }
     ensures opened_once { F.opens files.new ≡ F.opens files.old + 1 }
 {
@@ -156,25 +156,27 @@ fn follow_stream<'a, F: Files, K: Sink>(
     }
 }
 
-/// Reads a program, and follows a stream as a run of it. Requires that both may be opened. Returns the status of the
-/// verdict, that of the first input error, or `WriteFault` if a write fails, or `Memory`.
+/// Reads a program, and follows a stream as a run of it; if it `fills`, with local transitions filled in. Requires that
+/// both may be opened. Returns the status of the verdict, that of the first input error, or `WriteFault` if a write fails,
+/// or `Memory`.
 pub fn follow<F: Files, K: Sink, E: Sink>(
     alloc: Global,
     files: &mut F,
+    fills: bool,
     program: &str,
     stream: &str,
     out: &mut K,
     err: &mut E,
 ) -> Status
     requires countable { F.opens files.old ≤ 2 ^ 64 - 5 }
-    requires allowed { MayOpen (F.may files.old) (F.opens files.old) (files_of (of_follow program.now stream.now)) }
-    ensures ends { Ends (Some (of_follow program.now stream.now))
+    requires allowed { MayOpen (F.may files.old) (F.opens files.old) (files_of (of_follow fills program.now stream.now)) }
+    ensures ends { Ends (Some (of_follow fills program.now stream.now))
         (reading F.told F.opens F.given F.live F.faults files.old files.new)
         (writing K.written K.faults out.old out.new)
         (writing E.written E.faults err.old err.new)
         result }
-    ensures stops_reading { StaysWithin (reading F.told F.opens F.given F.live F.faults files.old files.new) (inputs (of_follow program.now stream.now)) }
-    ensures complete { IsServable (F.told files.old) (of_follow program.now stream.now)
+    ensures stops_reading { StaysWithin (reading F.told F.opens F.given F.live F.faults files.old files.new) (inputs (of_follow fills program.now stream.now)) }
+    ensures complete { IsServable (F.told files.old) (of_follow fills program.now stream.now)
         → ¬ (Rose (F.faults files.old) (F.faults files.new)) → ¬ (Rose (K.faults out.old) (K.faults out.new)) → ¬ (Rose (E.faults err.old) (E.faults err.new))
         → WholeTextWritten result ⊎ (result ≡ Status.Memory) }
 {
@@ -186,7 +188,7 @@ pub fn follow<F: Files, K: Sink, E: Sink>(
         Ok(checked) => checked,
         Err(stop) => return say_stop(alloc, err, stop),
     };
-    let Ok(mut judge) = Judge::make(alloc, &checked) else {
+    let Ok(mut judge) = Judge::make(alloc, &checked, fills) else {
         return Status::Memory;
     };
     match follow_stream(

@@ -21,7 +21,7 @@ use std::alloc::{AllocError, Global};
 
 /// The last line of the usage text.
 const USAGE: &[u8] =
-    b"usage: explore search [stuck|fault] [all] P [N], explore search writes P [N], explore search run J P [N], explore grade [--may-run-on] P N [OUTPUT].., explore watch P R [A B], explore waits|fill P R, explore follow P [R]\n";
+    b"usage: explore search [stuck|fault] [all] P [N], explore search writes P [N], explore search run J P [N], explore grade [--may-run-on] P N [OUTPUT].., explore watch P R [A B], explore waits|fill P R, explore follow [--fill] P [R]\n";
 
 /// Makes the output of a command, and writes it, or the line of an error.
 fn make<F: Files, K: Sink, E: Sink, P: Progress>(
@@ -75,7 +75,11 @@ fn serve<F: Files, K: Sink, E: Sink, P: Progress>(
 {
     match command {
         Command::Make(asked) => make(alloc, asked, files, out, err, progress),
-        Command::Follow { program, stream } => follow(alloc, files, program, stream, out, err),
+        Command::Follow {
+            fills,
+            program,
+            stream,
+        } => follow(alloc, files, *fills, program, stream, out, err),
     }
 }
 

@@ -3,7 +3,7 @@ ghost use Rattle.std.specs.Prelude.{◌≡◌, [], ◌∷◌, Some, option_map};
 ghost use Rattle.std.specs.Option.{option_or};
 ghost use Rattle.text_scan.specs.Lines.{decimal_of};
 ghost use Rattle.explore_driver.specs.Words.{texts_of};
-ghost use Rattle.explore_driver.specs.Unexpected.{in_command, in_grade, in_graded, in_kind, in_lines, in_pair, in_search, in_three, in_two, in_watch, no_all, no_last, no_line, no_name, no_number, no_question, unexpected};
+ghost use Rattle.explore_driver.specs.Unexpected.{in_command, in_follow, in_grade, in_graded, in_kind, in_lines, in_pair, in_search, in_three, in_two, in_watch, no_all, no_last, no_line, no_name, no_number, no_question, unexpected};
 
 use crate::words::{is_dashed, is_numeric, most_of, wanted_of};
 use pool_search::Target;
@@ -248,6 +248,19 @@ fn in_pair<'a>(words: &'a [String]) -> Option<&'a str>
     }
 }
 
+/// The first argument that fits nowhere where a stream is to be followed.
+fn in_follow<'a>(words: &'a [String]) -> Option<&'a str>
+    ensures { option_map (λ w. w.now) result ≡ in_follow (texts_of words.now) }
+{
+    let Some((word, rest)) = words.split_first() else {
+        return None;
+    };
+    if word.as_str() == "--fill" {
+        return in_pair(rest);
+    }
+    in_pair(words)
+}
+
 /// The word that fits nowhere of two names and the number of a line.
 fn in_line<'a>(first: &'a str, second: &'a str, third: &'a str) -> Option<&'a str>
     ensures { option_map (λ w. w.now) result ≡ in_watch (first.entry.now ∷ second.entry.now ∷ third.entry.now ∷ []) }
@@ -297,7 +310,7 @@ fn in_command<'a>(word: &'a str, words: &'a [String]) -> Option<&'a str>
         "watch" => in_watch(words),
         "waits" => in_pair(words),
         "fill" => in_pair(words),
-        "follow" => in_pair(words),
+        "follow" => in_follow(words),
         _ => Some(word),
     }
 }

@@ -1,7 +1,7 @@
 //! Reads the arguments of a command.
 ghost use Rattle.std.specs.Prelude.{◌≡◌, [], ◌∷◌, option_map, IfSome};
 ghost use Rattle.text_scan.specs.Lines.{decimal_of};
-ghost use Rattle.explore_driver.specs.Words.{command_of, follow_of, grade_of, graded_of, is_dashed, is_numeric, lines_of, most_of, of_fill, of_follow, of_watch, outcomes_for, pair_of, request_of, run_for, search_by, search_for, search_of, search_with, texts_of, wanted_of, watch_of};
+ghost use Rattle.explore_driver.specs.Words.{command_of, follow_of, followed_of, grade_of, graded_of, is_dashed, is_numeric, lines_of, most_of, of_fill, of_follow, of_watch, outcomes_for, pair_of, request_of, run_for, search_by, search_for, search_of, search_with, texts_of, wanted_of, watch_of};
 ghost use Rattle.explore_driver.specs.AskedRequest.{IsOrdered, IsSized, IsSizedCommand, request, wanted};
 
 use pool_search::{Query, Target};
@@ -55,8 +55,12 @@ pub enum Asked<'a> {
 #[derive(Clone, Copy)]
 pub enum Command<'a> {
     Make(Asked<'a>),
-    /// Follow the stream as a run of the program.
-    Follow { program: &'a str, stream: &'a str },
+    /// Follow the stream as a run of the program. If it `fills`, the local transitions of the stream are filled in.
+    Follow {
+        fills: bool,
+        program: &'a str,
+        stream: &'a str,
+    },
 }
 
 /// Whether an argument begins with `-`.
@@ -389,27 +393,45 @@ fn fill_of<'a>(words: &'a [String]) -> Option<Asked<'a>>
 }
 
 /// The stream of two names. None if a name begins with `-`.
-fn follow_of_two<'a>(program: &'a str, stream: &'a str) -> Option<Command<'a>>
-    ensures request { option_map wanted result ≡ pair_of of_follow (program.entry.now ∷ stream.entry.now ∷ []) }
+fn follow_of_two<'a>(fills: bool, program: &'a str, stream: &'a str) -> Option<Command<'a>>
+    ensures request { option_map wanted result ≡ pair_of (of_follow fills) (program.entry.now ∷ stream.entry.now ∷ []) }
     ensures sized { IfSome result (λ command. IsSizedCommand command) }
 {
     if is_dashed(program) || is_dashed(stream) {
         return None;
     }
-    Some(Command::Follow { program, stream })
+    Some(Command::Follow {
+        fills,
+        program,
+        stream,
+    })
 }
 
-/// The stream to be followed of the arguments after the first: without a second name it is the standard input. None if
-/// they are not one.
+/// The stream to be followed of these arguments: without a second name it is the standard input. None if they are not
+/// one.
+fn followed_of<'a>(fills: bool, words: &'a [String]) -> Option<Command<'a>>
+    ensures request { option_map wanted result ≡ followed_of fills (texts_of words.now) }
+    ensures sized { IfSome result (λ command. IsSizedCommand command) }
+{
+    match words {
+        [program] => follow_of_two(fills, program.as_str(), STANDARD_INPUT),
+        [program, stream] => follow_of_two(fills, program.as_str(), stream.as_str()),
+        _ => None,
+    }
+}
+
+/// The stream to be followed of the arguments after the first. None if they are not one.
 fn follow_of<'a>(words: &'a [String]) -> Option<Command<'a>>
     ensures request { option_map wanted result ≡ follow_of (texts_of words.now) }
     ensures sized { IfSome result (λ command. IsSizedCommand command) }
 {
-    match words {
-        [program] => follow_of_two(program.as_str(), STANDARD_INPUT),
-        [program, stream] => follow_of_two(program.as_str(), stream.as_str()),
-        _ => None,
+    let Some((word, rest)) = words.split_first() else {
+        return None;
+    };
+    if word.as_str() == "--fill" {
+        return followed_of(true, rest);
     }
+    followed_of(false, words)
 }
 
 /// The command of this output.

@@ -1,5 +1,7 @@
 -- The filled lines and their verdict, by the steps of the code.
 use Rattle.std.proofs.Common.{◌≡◌, refl, sym, ap, ap₂, subst, ◌∙◌, ℕ, ◌<◌, List, [], ◌∷◌, ◌++◌, ◌||◌, replicate, Some, None, Bool, true, false, append_assoc, append-nil, arith}
+use Rattle.text_scan.specs.Text.{Text}
+use Rattle.run_types.specs.declared.types.Label.{Label}
 use Rattle.run_types.specs.declared.types.What.TheVariants as W
 use Rattle.run_types.specs.declared.types.End.{End}
 use Rattle.run_types.specs.declared.types.End.TheVariants as E
@@ -17,12 +19,15 @@ use Rattle.pool_relation.proofs.Laws.{joined}
 use Rattle.mesh_semantics.specs.Record.{ends_quiet, is_quiet_end, labels}
 use Rattle.pool_semantics.specs.PlainOf.{configuration_of, program_tree}
 use Rattle.pool_semantics.specs.Shown.{Shows}
-use Rattle.record_check.specs.RecordJudgement.{Judged, LeadsTo, StopsAt, root}
+use Rattle.record_writer.specs.WrittenText.{writes_text}
+use Rattle.record_check.specs.RecordJudgement.{Judged, LeadsTo, StopsAt, first_agent, root}
+use Rattle.record_check.specs.VerdictText.{verdict_text}
 use Rattle.record_check.proofs.Laws.{labels_split, no_run, same_start}
-use Rattle.stream_check.specs.Followed.{EndsWith}
+use Rattle.stream_check.specs.Followed.{EndsWith, IsJudged}
 use Rattle.stream_check.specs.declared.filling.Filling.{Filling}
-use Rattle.stream_check.specs.Filled.{AllAtRest, AreAtRest, AreInPlace, AreNumbered, HaveNoLocal, IsFilled, IsSame, TakesPart, without_local, without_local_of}
-use Rattle.stream_check.specs.FillProgress.{Adds, Begins, Ends, Follows, Grows, Passes, Stops, with_done}
+use Rattle.stream_check.specs.Filled.{AllAtRest, AreAtRest, AreInPlace, AreNumbered, HaveNoLocal, IsFilled, IsSame, TakesPart, without_local}
+use Rattle.stream_check.specs.FillProgress.{Adds, AreFillsOf, Begins, Ends, Follows, Passes, Stops, with_done}
+use Rattle.stream_check.specs.FillingLines.{HasFilled}
 use Rattle.stream_check.proofs.FilledPlaces.{all_own, in_place_before, needed_at, own_in_place}
 use Rattle.stream_check.proofs.KeptLines.{kept_end, own_kept, quiet_without, without_split}
 use Rattle.stream_check.proofs.RootOfLines.{root_of_step, rooted}
@@ -51,6 +56,143 @@ is_quiet : (b : Bool) → (b || false) ≡ true → b ≡ true
 is_quiet true h = refl
 is_quiet false h = absurd (cc)
 
+-- lines filled so far, from the start on
+module _ (p : ProgramTree) (ls : List Line) (c0 : Configuration) (starts : start p (root (without_local ls)) ≡ Some c0) (kept fs : List Line) (last : ℕ) (c : Configuration) (k : HasFilled p c0 kept fs last c) where
+  -- they lead on
+  pub leads_on : (filled : List Line) (d : Configuration) → run p c (labels filled) ≡ Some d → run p c0 (labels (fs ++ filled)) ≡ Some d
+  leads_on filled d h = ap (run p c0) (labels_split fs filled) ∙ (joined p c0 c (labels fs) (labels filled) k.leads ∙ h)
+
+  -- they say the same
+  kept_on : (filled : List Line) → without_local filled ≡ [] → without_local (fs ++ filled) ≡ kept
+  kept_on filled silent = without_split fs filled ∙ ap₂ (λ xs ys. xs ++ ys) k.same silent ∙ append-nil kept
+
+  -- they are numbered
+  numbered_on : (filled more : List Line) → AreNumbered last (filled ++ more) → AreNumbered 0 ((fs ++ filled) ++ more)
+  numbered_on filled more h = subst (λ (xs : List Line). AreNumbered 0 xs) (sym (append_assoc fs filled more)) (k.numbered (filled ++ more) h)
+
+  -- and are in place
+  places_on : (filled more : List Line) → AreInPlace (filled ++ more) → AreInPlace ((fs ++ filled) ++ more)
+  places_on filled more h = subst (λ (xs : List Line). AreInPlace xs) (sym (append_assoc fs filled more)) (k.in_place (filled ++ more) h)
+
+  -- a line is impossible
+  module _ (f g : Filling) (l : Line) (redex : Redex) (s : Stops f g l redex) (program : program_tree f.plain ≡ p) (is_last : f.last ≡ last) (is_here : configuration_of f.plain ≡ c)
+      (rests : (lab : Label) → AreAtRest p (f.lines ++ s.filled) (configuration_of g.plain) lab → AreAtRest p (fs ++ s.filled) (configuration_of g.plain) lab)
+      (rest added : List Line) (all : kept ++ without_local (l ∷ rest) ≡ without_local ls) (copied : without_local added ≡ without_local rest) (behind : AreNumbered g.last added) (own : HaveNoLocal added) where
+    abbrev before : List Line
+    before = fs ++ s.filled
+
+    abbrev its : Line
+    its = R.Event g.last s.event (W.Step s.label s.times)
+
+    abbrev pub whole : List Line
+    whole = before ++ its ∷ added
+
+    same : without_local whole ≡ without_local ls
+    same =
+        without_split before (its ∷ added)
+        ∙ ap₂ (λ xs ys. xs ++ ys) (kept_on s.filled s.silent) (ap₂ (λ xs ys. xs ++ ys) (own_kept g.last s.event s.label s.times s.own ∙ sym s.kept) copied)
+        ∙ all
+
+    lead : run p c0 (labels before) ≡ Some s.between
+    lead =
+        leads_on s.filled s.between
+        (subst (λ (d : Configuration). run p d (labels s.filled) ≡ Some s.between) is_here
+        (subst (λ (t : ProgramTree). run t (configuration_of f.plain) (labels s.filled) ≡ Some s.between) program s.leads))
+
+    origin : root whole ≡ root (without_local ls)
+    origin =
+        rooted p (root (without_local ls)) c0 s.between before (its ∷ added) starts lead (ap root (sym same))
+        (root_of_step g.last s.event s.label s.times added s.own (positive s.stops.made s.times s.stops.fewer))
+
+    abbrev stop : StopsAt p whole g.last (configuration_of g.plain) s.label
+    stop =
+        record {
+          before = before;
+          behind = added;
+          event = s.event;
+          made = s.stops.made;
+          times = s.times;
+          whole = refl;
+          fewer = s.stops.fewer;
+          from = c0;
+          starts = ap (start p) origin ∙ starts;
+          leads =
+              joined p c0 s.between (labels before) (replicate s.stops.made s.label) lead
+              ∙ subst (λ (t : ProgramTree). run t s.between (replicate s.stops.made s.label) ≡ Some (configuration_of g.plain)) program s.stops.leads;
+          impossible = subst (λ (t : ProgramTree). transition t (configuration_of g.plain) s.label ≡ None) program s.stops.impossible;
+        }
+
+    shows : Shows p (configuration_of g.plain) (agent s.label) redex
+    shows = subst (λ (t : ProgramTree). Shows t (configuration_of g.plain) (agent s.label) redex) program s.stops.shows
+
+    pub stopped_in : IsFilled p ls whole (V.No g.last redex)
+    stopped_in =
+        let numbered : AreNumbered last (s.filled ++ its ∷ added) = subst (λ (n : ℕ). AreNumbered n (s.filled ++ its ∷ added)) is_last (s.numbered added behind) in (
+          record {
+            says = record { same = same; rooted = origin };
+            in_place =
+                places_on s.filled (its ∷ added)
+                (in_place_before (λ q. TakesPart q s.label) s.filled (its ∷ added) s.fills (λ q n. needed_at its added s.own q n) (own_in_place its added s.own (all_own added own)));
+            numbered = numbered_on s.filled (its ∷ added) numbered;
+          },
+          (
+            configuration_of g.plain,
+            s.label,
+            stop,
+            shows,
+            s.own,
+            own,
+            λ none. rests s.label (subst (λ (t : ProgramTree). AreAtRest t (f.lines ++ s.filled) (configuration_of g.plain) s.label) program (s.rests none)),
+          ),
+        )
+
+    -- the text for it
+    pub told_in : (names : List Text) (text : Text) → text ≡ writes_text names before → IsJudged p names whole (text ++ verdict_text names (V.No g.last redex)) (V.No g.last redex)
+    told_in names text h = (configuration_of g.plain, s.label, stop, shows, ap (λ t. t ++ verdict_text names (V.No g.last redex)) h)
+
+  -- the end has come
+  module _ (end : End) (filled : List Line) (done : ℕ) (d : Configuration) (silent : without_local filled ≡ []) (fills : AreFillsOf (λ q. is_quiet_end (R.End end) ≡ true) filled)
+      (numbers : AreNumbered last (filled ++ R.End (with_done done end) ∷ [])) (leads : run p c (labels filled) ≡ Some d)
+      (rests : is_quiet_end (R.End end) ≡ true → AllAtRest p (fs ++ filled) d) (all : kept ++ without_local (R.End end ∷ []) ≡ without_local ls)
+      (quiet : ends_quiet (R.End end ∷ []) ≡ ends_quiet ls) where
+    abbrev before_end : List Line
+    before_end = fs ++ filled
+
+    abbrev its_end : Line
+    its_end = R.End (with_done done end)
+
+    abbrev pub whole_end : List Line
+    whole_end = before_end ++ its_end ∷ []
+
+    same_end : without_local whole_end ≡ without_local ls
+    same_end = without_split before_end (its_end ∷ []) ∙ ap₂ (λ xs ys. xs ++ ys) (kept_on filled silent) (kept_end done end) ∙ all
+
+    lead_end : run p c0 (labels before_end) ≡ Some d
+    lead_end = leads_on filled d leads
+
+    origin_end : root whole_end ≡ root (without_local ls)
+    origin_end = rooted p (root (without_local ls)) c0 d before_end (its_end ∷ []) starts lead_end (ap root (sym same_end)) refl
+
+    shown : labels whole_end ≡ labels before_end
+    shown = labels_split before_end (its_end ∷ []) ∙ append-nil (labels before_end)
+
+    pub led_to : LeadsTo p before_end d
+    led_to = record { from = c0; starts = ap (start p) (ap first_agent (sym shown) ∙ origin_end) ∙ starts; leads = lead_end }
+
+    pub ended_in : (v : Verdict) → (LeadsTo p whole_end d → Judged p whole_end v) → IsFilled p ls whole_end v
+    ended_in v judged =
+        let led : LeadsTo p whole_end d = record { from = c0; starts = ap (start p) origin_end ∙ starts; leads = ap (run p c0) shown ∙ lead_end } in
+        let says : ends_quiet whole_end ≡ ends_quiet (R.End end ∷ []) = sym (quiet_without whole_end) ∙ (ap ends_quiet same_end ∙ (quiet_without ls ∙ sym quiet)) in
+        at_end p ls whole_end before_end d v
+        (record {
+          says = record { same = same_end; rooted = origin_end };
+          in_place =
+              places_on filled (its_end ∷ []) (in_place_before (λ q. is_quiet_end (R.End end) ≡ true) filled (its_end ∷ []) fills (λ q n. still_quiet done end ∙ n) tt);
+          numbered = numbered_on filled (its_end ∷ []) numbers;
+        })
+        led (judged led) (record { end = with_done done end; whole = refl })
+        (λ h. rests (is_quiet (is_quiet_end (R.End end)) (sym says ∙ h)))
+
 module _ (ls : List Line) (f0 : Filling) (b : Begins ls f0) where
   abbrev p : ProgramTree
   p = program_tree f0.plain
@@ -59,115 +201,39 @@ module _ (ls : List Line) (f0 : Filling) (b : Begins ls f0) where
   c0 = configuration_of f0.plain
 
   -- lines that were added from the start on
-  front : (f : Filling) (kept : List Line) (g : Grows f0 f kept) → f.lines ≡ g.added
-  front f kept g = g.adds.lines ∙ ap (λ xs. xs ++ g.added) b.none
-
-  -- they lead on
-  leads_on : (f : Filling) (kept filled : List Line) (d : Configuration) → Grows f0 f kept → run (program_tree f.plain) (configuration_of f.plain) (labels filled) ≡ Some d → run p c0 (labels (f.lines ++ filled)) ≡ Some d
-  leads_on f kept filled d g h =
-      ap (run p c0) (labels_split f.lines filled ∙ ap (λ xs. labels xs ++ labels filled) (front f kept g))
-      ∙ (joined p c0 (configuration_of f.plain) (labels g.added) (labels filled) g.leads
-      ∙ subst (λ (t : ProgramTree). run t (configuration_of f.plain) (labels filled) ≡ Some d) g.program h)
-
-  -- they say the same
-  kept_on : (f : Filling) (kept filled : List Line) → Grows f0 f kept → without_local filled ≡ [] → without_local (f.lines ++ filled) ≡ kept
-  kept_on f kept filled g silent =
-      without_split f.lines filled
-      ∙ ap₂ (λ xs ys. xs ++ ys) (ap without_local (front f kept g) ∙ g.adds.same) silent
-      ∙ append-nil kept
-
-  -- they are numbered
-  numbered_on : (f : Filling) (kept filled more : List Line) → Grows f0 f kept → AreNumbered f.last (filled ++ more) → AreNumbered 0 ((f.lines ++ filled) ++ more)
-  numbered_on f kept filled more g h =
-      subst (λ (xs : List Line). AreNumbered 0 xs) (ap (λ xs. xs ++ (filled ++ more)) (sym (front f kept g)) ∙ sym (append_assoc f.lines filled more))
-      (subst (λ (k : ℕ). AreNumbered k (g.added ++ (filled ++ more))) b.first (g.adds.numbered (filled ++ more) h))
-
-  -- and are in place
-  places_on : (f : Filling) (kept : List Line) (w : Passes f0 f kept) (filled more : List Line) → AreInPlace (filled ++ more) → AreInPlace ((f.lines ++ filled) ++ more)
-  places_on f kept w filled more h =
-      subst (λ (xs : List Line). AreInPlace xs) (ap (λ xs. xs ++ (filled ++ more)) (sym (front f kept w.grows)) ∙ sym (append_assoc f.lines filled more)) (w.in_place (filled ++ more) h)
+  from_start : (f : Filling) (kept : List Line) → Passes f0 f kept → HasFilled p c0 kept f.lines f.last (configuration_of f.plain)
+  from_start f kept w =
+      let g = w.grows in
+      let front : f.lines ≡ g.added = g.adds.lines ∙ ap (λ xs. xs ++ g.added) b.none in
+      record {
+        same = ap without_local front ∙ g.adds.same;
+        numbered = λ more h. subst (λ (xs : List Line). AreNumbered 0 (xs ++ more)) (sym front) (subst (λ (n : ℕ). AreNumbered n (g.added ++ more)) b.first (g.adds.numbered more h));
+        in_place = λ more h. subst (λ (xs : List Line). AreInPlace (xs ++ more)) (sym front) (w.in_place more h);
+        leads = ap (λ xs. run p c0 (labels xs)) front ∙ g.leads;
+      }
 
   -- a line is impossible
   pub stopped : (f g h : Filling) (l : Line) (rest added : List Line) (redex : Redex) → Follows ls (l ∷ rest) f0 f → Stops f g l redex → Adds g h added (without_local rest)
       → HaveNoLocal added → IsFilled p ls h.lines (V.No g.last redex)
   stopped f g h l rest added redex w s a own =
-      let kept = w.kept in
-      let gr = w.passes.grows in
       let before = f.lines ++ s.filled in
       let its = R.Event g.last s.event (W.Step s.label s.times) in
       let whole : h.lines ≡ before ++ its ∷ added = a.lines ∙ ap (λ xs. xs ++ added) s.lines ∙ append_assoc before (its ∷ []) added in
-      let kind : without_local_of its ≡ without_local_of l = kept_its f g l redex s in
-      let same : without_local h.lines ≡ without_local ls =
-      ap without_local whole ∙ without_split before (its ∷ added)
-      ∙ ap₂ (λ xs ys. xs ++ ys) (kept_on f kept s.filled gr s.silent) (ap₂ (λ xs ys. xs ++ ys) kind a.same)
-      ∙ w.all in
       let behind : AreNumbered g.last added = subst (λ (xs : List Line). AreNumbered g.last xs) (append-nil added) (a.numbered [] tt) in
-      let numbered : AreNumbered 0 h.lines = subst (λ (xs : List Line). AreNumbered 0 xs) (sym whole) (numbered_on f kept s.filled (its ∷ added) gr (s.numbered added behind)) in
-      let in_place : AreInPlace h.lines =
-      subst (λ (xs : List Line). AreInPlace xs) (sym whole)
-      (places_on f kept w.passes s.filled (its ∷ added)
-      (in_place_before (λ q. TakesPart q s.label) s.filled (its ∷ added) s.fills (λ q n. needed_at its added s.own q n)
-      (own_in_place its added s.own (all_own added own)))) in
-      let lead : run p c0 (labels before) ≡ Some s.between = leads_on f kept s.filled s.between gr s.leads in
-      let origin : root h.lines ≡ root (without_local ls) =
-      ap root whole
-      ∙ rooted p (root (without_local ls)) c0 s.between before (its ∷ added) b.starts lead (ap root (sym same) ∙ ap (λ xs. root (without_local xs)) whole)
-      (root_of_step g.last s.event s.label s.times added s.own (positive s.stops.made s.times s.stops.fewer)) in
-      let stop : StopsAt p h.lines g.last (configuration_of g.plain) s.label =
-      record {
-        before = before;
-        behind = added;
-        event = s.event;
-        made = s.stops.made;
-        times = s.times;
-        whole = whole;
-        fewer = s.stops.fewer;
-        from = c0;
-        starts = ap (start p) origin ∙ b.starts;
-        leads =
-            joined p c0 s.between (labels before) (replicate s.stops.made s.label) lead
-            ∙ subst (λ (t : ProgramTree). run t s.between (replicate s.stops.made s.label) ≡ Some (configuration_of g.plain)) gr.program s.stops.leads;
-        impossible = subst (λ (t : ProgramTree). transition t (configuration_of g.plain) s.label ≡ None) gr.program s.stops.impossible;
-      } in (
-        record { says = record { same = same; rooted = origin }; in_place = in_place; numbered = numbered },
-        (
-          configuration_of g.plain,
-          s.label,
-          stop,
-          subst (λ (t : ProgramTree). Shows t (configuration_of g.plain) (agent s.label) redex) gr.program s.stops.shows,
-          s.own,
-          own,
-          λ none. subst (λ (t : ProgramTree). AreAtRest t before (configuration_of g.plain) s.label) gr.program (s.rests none),
-        ),
-      )
-    where
-      kept_its : (f g : Filling) (l : Line) (redex : Redex) (s : Stops f g l redex) → without_local_of (R.Event g.last s.event (W.Step s.label s.times)) ≡ without_local_of l
-      kept_its f g l redex s = own_kept g.last s.event s.label s.times s.own ∙ sym s.kept
+      subst (λ (xs : List Line). IsFilled p ls xs (V.No g.last redex)) (sym whole)
+      (stopped_in p ls c0 b.starts w.kept f.lines f.last (configuration_of f.plain) (from_start f w.kept w.passes) f g l redex s w.passes.grows.program refl refl (λ lab r. r) rest added w.all a.same behind own)
 
   -- the end has come
   pub ended : (f g : Filling) (end : End) (v : Verdict) → Follows ls (R.End end ∷ []) f0 f → Ends f g end v → IsFilled p ls g.lines v
   ended f g end v w e =
-      let kept = w.kept in
       let gr = w.passes.grows in
-      let before = f.lines ++ e.filled in
-      let its = R.End (with_done e.last end) in
       let d = configuration_of g.plain in
-      let same : without_local g.lines ≡ without_local ls =
-      ap without_local e.lines ∙ without_split before (its ∷ [])
-      ∙ ap₂ (λ xs ys. xs ++ ys) (kept_on f kept e.filled gr e.silent) (kept_end e.last end)
-      ∙ w.all in
-      let numbered : AreNumbered 0 g.lines = subst (λ (xs : List Line). AreNumbered 0 xs) (sym e.lines) (numbered_on f kept e.filled (its ∷ []) gr e.numbered) in
-      let in_place : AreInPlace g.lines =
-      subst (λ (xs : List Line). AreInPlace xs) (sym e.lines)
-      (places_on f kept w.passes e.filled (its ∷ [])
-      (in_place_before (λ q. is_quiet_end (R.End end) ≡ true) e.filled (its ∷ []) e.fills (λ q n. still_quiet e.last end ∙ n) tt)) in
-      let lead : run p c0 (labels before) ≡ Some d = leads_on f kept e.filled d gr e.leads in
-      let origin : root g.lines ≡ root (without_local ls) =
-      ap root e.lines ∙ rooted p (root (without_local ls)) c0 d before (its ∷ []) b.starts lead (ap root (sym same) ∙ ap (λ xs. root (without_local xs)) e.lines) refl in
-      let shown : labels g.lines ≡ labels before = ap labels e.lines ∙ labels_split before (its ∷ []) ∙ append-nil (labels before) in
-      let led : LeadsTo p g.lines d = record { from = c0; starts = ap (start p) origin ∙ b.starts; leads = ap (run p c0) shown ∙ lead } in
-      let judged : Judged p g.lines v =
-      subst (λ (t : ProgramTree). Judged t g.lines v) gr.program (e.judged (subst (λ (t : ProgramTree). LeadsTo t g.lines d) (sym gr.program) led)) in
-      let says : ends_quiet g.lines ≡ ends_quiet (R.End end ∷ []) = sym (quiet_without g.lines) ∙ (ap ends_quiet same ∙ (quiet_without ls ∙ sym w.quiet)) in
-      at_end p ls g.lines before d v (record { says = record { same = same; rooted = origin }; in_place = in_place; numbered = numbered }) led judged (record { end = with_done e.last end; whole = e.lines })
-      (λ h. subst (λ (t : ProgramTree). AllAtRest t before d) gr.program (e.rests (is_quiet (is_quiet_end (R.End end)) (sym says ∙ h))))
+      let whole = e.lines in
+      let leads : run p (configuration_of f.plain) (labels e.filled) ≡ Some d =
+      subst (λ (t : ProgramTree). run t (configuration_of f.plain) (labels e.filled) ≡ Some d) gr.program e.leads in
+      let judged : LeadsTo p g.lines d → Judged p g.lines v =
+      subst (λ (t : ProgramTree). LeadsTo t g.lines d → Judged t g.lines v) gr.program e.judged in
+      subst (λ (xs : List Line). IsFilled p ls xs v) (sym whole)
+      (ended_in p ls c0 b.starts w.kept f.lines f.last (configuration_of f.plain) (from_start f w.kept w.passes) end e.filled e.last d e.silent e.fills e.numbered leads
+      (λ h. subst (λ (t : ProgramTree). AllAtRest t (f.lines ++ e.filled) d) gr.program (e.rests h)) w.all w.quiet v
+      (subst (λ (xs : List Line). LeadsTo p xs d → Judged p xs v) whole judged))

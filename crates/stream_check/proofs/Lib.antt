@@ -2,6 +2,8 @@ pub mod LineFeeds
 pub mod StreamRows
 pub mod StreamLaws
 pub mod NextLine
+pub mod LineWrites
+pub mod FillingSteps
 pub mod WholeLines
 pub mod OneText
 pub mod ReadIsFollowed

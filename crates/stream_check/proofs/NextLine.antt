@@ -42,12 +42,12 @@ end_behind ls l b h i = list_any-append is_end ls (l ∷ []) ∙ (ap (λ c. c ||
     by false i = rw i refl
 
 -- the labels that a line shows, by its steps
-no_steps : (l : Line) → steps_of l ≡ None → labels_of l ≡ []
+pub no_steps : (l : Line) → steps_of l ≡ None → labels_of l ≡ []
 no_steps (R.End e) h = refl
 no_steps (R.Event n e (W.Step label times)) h = absurd (let z : Some _ ≡ None = h in cc)
 no_steps (R.Event n e what) h = refl
 
-with_steps : (l : Line) (s : Steps) → steps_of l ≡ Some s → labels_of l ≡ replicate s.times s.label
+pub with_steps : (l : Line) (s : Steps) → steps_of l ≡ Some s → labels_of l ≡ replicate s.times s.label
 with_steps (R.End e) s h = absurd (let z : None ≡ Some s = h in cc)
 with_steps (R.Event n e (W.Step label times)) s h = let z = same_some h in ap (λ (s : Steps). replicate s.times s.label) z
 with_steps (R.Event n e what) s h = absurd (let z : None ≡ Some s = h in cc)
@@ -105,8 +105,8 @@ module _ (p : ProgramTree) (ls : List Line) (l : Line) (j : Lines) (a : IsAfter 
   ready_zero s b h z = ready_none b (with_steps l s h ∙ ap (λ n. replicate n s.label) z)
 
   -- the line shows the first transition
-  pub ready_first : (s : Steps) (i : Lines) → j.begun ≡ false → steps_of l ≡ Some s → s.times ≢ 0 → program_tree i.plain ≡ p → is_spent i.plain ≡ false
-      → start p (agent s.label) ≡ Some (configuration_of i.plain) → i.begun ≡ true → i.last ≡ j.last → IsReady p ls l i
+  pub ready_first : (s : Steps) (i : Lines) → j.begun ≡ false → steps_of l ≡ Some s → s.times ≢ 0 → program_tree i.filling.plain ≡ p → is_spent i.filling.plain ≡ false
+      → start p (agent s.label) ≡ Some (configuration_of i.filling.plain) → i.begun ≡ true → i.last ≡ j.last → IsReady p ls l i
   ready_first s i b h some program fresh starts begun last = by s.times refl
     where
       by : (n : ℕ) → s.times ≡ n → IsReady p ls l i
@@ -119,9 +119,9 @@ module _ (p : ProgramTree) (ls : List Line) (l : Line) (j : Lines) (a : IsAfter 
             program = program;
             fresh = fresh;
             unended = a.unended;
-            from = configuration_of i.plain;
+            from = configuration_of i.filling.plain;
             starts = ap (λ ms. start p (first_agent ms)) first ∙ starts;
-            leads = ap (run p (configuration_of i.plain)) none;
+            leads = ap (run p (configuration_of i.filling.plain)) none;
             unmoved = λ n. absurd (let z : true ≡ false = sym begun ∙ n in cc);
             moved = λ _. λ k. let z : s.label ∷ replicate n s.label ≡ [] = sym first ∙ k in cc;
             last = last ∙ a.last;
@@ -129,11 +129,11 @@ module _ (p : ProgramTree) (ls : List Line) (l : Line) (j : Lines) (a : IsAfter 
 
 module _ (p : ProgramTree) (ls : List Line) (l : Line) (j : Lines) (a : IsReady p ls l j) where
   -- its transitions are possible
-  pub after_step : (i : Lines) → comes_next j.last l ≡ true → is_end l ≡ false → program_tree i.plain ≡ program_tree j.plain → (is_spent j.plain ≡ false → is_spent i.plain ≡ false)
-      → run (program_tree j.plain) (configuration_of j.plain) (labels_of l) ≡ Some (configuration_of i.plain) → i.begun ≡ j.begun → i.last ≡ next_number j.last → IsAfter p (ls ++ l ∷ []) i
+  pub after_step : (i : Lines) → comes_next j.last l ≡ true → is_end l ≡ false → program_tree i.filling.plain ≡ program_tree j.filling.plain → (is_spent j.filling.plain ≡ false → is_spent i.filling.plain ≡ false)
+      → run (program_tree j.filling.plain) (configuration_of j.filling.plain) (labels_of l) ≡ Some (configuration_of i.filling.plain) → i.begun ≡ j.begun → i.last ≡ next_number j.last → IsAfter p (ls ++ l ∷ []) i
   after_step i n e program fresh leads begun last =
-      let here : run p (configuration_of j.plain) (labels_of l) ≡ Some (configuration_of i.plain) =
-      subst (λ (q : ProgramTree). run q (configuration_of j.plain) (labels_of l) ≡ Some (configuration_of i.plain)) a.program leads in
+      let here : run p (configuration_of j.filling.plain) (labels_of l) ≡ Some (configuration_of i.filling.plain) =
+      subst (λ (q : ProgramTree). run q (configuration_of j.filling.plain) (labels_of l) ≡ Some (configuration_of i.filling.plain)) a.program leads in
       record {
         program = program ∙ a.program;
         fresh = fresh a.fresh;
@@ -141,7 +141,7 @@ module _ (p : ProgramTree) (ls : List Line) (l : Line) (j : Lines) (a : IsReady 
         leads = record {
           from = a.from;
           starts = a.starts;
-          leads = ap (run p a.from) (labels_behind ls l) ∙ (joined p a.from (configuration_of j.plain) (labels ls) (labels_of l) a.leads ∙ here);
+          leads = ap (run p a.from) (labels_behind ls l) ∙ (joined p a.from (configuration_of j.filling.plain) (labels ls) (labels_of l) a.leads ∙ here);
         };
         unmoved = λ h. a.unmoved (sym begun ∙ h);
         moved = λ h. a.moved (sym begun ∙ h);
@@ -149,15 +149,15 @@ module _ (p : ProgramTree) (ls : List Line) (l : Line) (j : Lines) (a : IsReady 
       }
 
   -- one of them is impossible
-  pub stops_next : (number : ℕ) (d : Configuration) (redex : Redex) → StopsLine (program_tree j.plain) (configuration_of j.plain) l number d redex → StopsNext p ls l number redex
+  pub stops_next : (number : ℕ) (d : Configuration) (redex : Redex) → StopsLine (program_tree j.filling.plain) (configuration_of j.filling.plain) l number d redex → StopsNext p ls l number redex
   stops_next number d redex stops =
       record {
         from = a.from;
-        between = configuration_of j.plain;
+        between = configuration_of j.filling.plain;
         last = d;
         starts = a.starts;
         leads = a.leads;
-        stops = subst (λ (q : ProgramTree). StopsLine q (configuration_of j.plain) l number d redex) a.program stops;
+        stops = subst (λ (q : ProgramTree). StopsLine q (configuration_of j.filling.plain) l number d redex) a.program stops;
       }
 
 module _ (p : ProgramTree) (ls : List Line) (e : End) (d : Configuration) where
@@ -192,6 +192,10 @@ module _ (p : ProgramTree) (ls : List Line) (e : End) (d : Configuration) where
       none : (k : ℕ) → k < o → (lab : Label) → agent lab ≡ k → (c : Configuration) → transition p d lab ≡ Some c → ⊥
       none k i lab s c z = let w : None ≡ Some c = sym (least lab (subst (λ (n : ℕ). n < o) (sym s) i)) ∙ z in cc
 
+-- the line with the number of its name has its number
+pub number_told : (names : List Text) (last : ℕ) (t : Told) (l : Line) → l ≡ numbered names t → comes_next last t.line ≡ true → comes_next last l ≡ true
+number_told names last t l same next = ap (comes_next last) same ∙ (number_kept names last t.text t.line ∙ next)
+
 -- a line of a text is judged as its line with the number of its name
 pub judged_line : (p : ProgramTree) (names : List Text) (ls : List Line) (last : ℕ) (o : Option Told) (t : Told) (l : Line) (v w : Option Verdict) (text : Text) (j : Lines) → Some t ≡ o → comes_next last t.line ≡ true
     → l ≡ numbered names t → (comes_next last l ≡ true → IsVerdictAt p ls l j v) → v ≡ w → text ≡ judged_text names l w → IsJudgedLine p names ls last o w text j
@@ -201,6 +205,6 @@ judged_line p names ls last o t l v w text j is next same verdict found writes =
       is = sym is;
       next = next;
       verdict = subst (λ (x : Option Verdict). IsVerdictAt p ls (numbered names t) j x) found
-          (subst (λ (x : Line). IsVerdictAt p ls x j v) same (verdict (ap (comes_next last) same ∙ (number_kept names last t.text t.line ∙ next))));
+          (subst (λ (x : Line). IsVerdictAt p ls x j v) same (verdict (number_told names last t l same next)));
       writes = writes ∙ ap (λ x. judged_text names x w) same;
     }

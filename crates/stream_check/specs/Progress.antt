@@ -1,5 +1,5 @@
 -- What the code's judge holds after some bytes of a stream, and what one more line gives.
-use Rattle.std.specs.Prelude.{◌≡◌, ◌≢◌, ℕ, List, [], ◌∷◌, ◌++◌, Option, Some, None, true, false}
+use Rattle.std.specs.Prelude.{◌≡◌, ◌≢◌, ℕ, List, [], ◌∷◌, ◌++◌, Option, Some, None, Bool, true, false}
 use Rattle.text_scan.specs.Text.{Text}
 use Rattle.run_types.specs.declared.types.Line.{Line}
 use Rattle.run_types.specs.declared.verdicts.Redex.{Redex}
@@ -12,7 +12,6 @@ use Rattle.mesh_semantics.specs.Record.{labels}
 use Rattle.pool_semantics.specs.PlainOf.{configuration_of, program_tree, is_spent}
 use Rattle.record_writer.specs.WrittenText.{writes_of}
 use Rattle.record_check.specs.RecordJudgement.{IsRunOf, LeadsTo, StillMoves, root}
-use Rattle.record_check.specs.VerdictText.{verdict_text}
 use Rattle.record_check.specs.Verdicts.{StopsLine}
 use Rattle.record_parser.specs.Fields.{parts}
 use Rattle.record_parser.specs.Lines.{Told}
@@ -22,6 +21,7 @@ use Rattle.stream_check.specs.declared.judge.Judge.{Judge}
 use Rattle.stream_check.specs.declared.judge.Lines.{Lines}
 use Rattle.stream_check.specs.declared.judge.Stop.{Stop}
 use Rattle.stream_check.specs.declared.judge.Stop.TheVariants as S
+use Rattle.stream_check.specs.FillingLines.{IsFilledAfter, IsFilledLine, stop_text}
 use Rattle.stream_check.specs.Stream.{comes_next, fault_after, has_end, last_number, stream_fault, stream_lines}
 
 -- the last of some texts, and [] without one
@@ -33,22 +33,22 @@ last_part (p ∷ q ∷ ps) = last_part (q ∷ ps)
 -- The judge of lines has judged these: all are possible, and it has the configuration after them and the number of the
 -- last event. The root is named by the first transition.
 pub record IsAfter (p : ProgramTree) (ls : List Line) (j : Lines) : Type 0 where
-  pub program : program_tree j.plain ≡ p
-  pub fresh : is_spent j.plain ≡ false
+  pub program : program_tree j.filling.plain ≡ p
+  pub fresh : is_spent j.filling.plain ≡ false
   pub unended : has_end ls ≡ false
-  pub leads : LeadsTo p ls (configuration_of j.plain)
+  pub leads : LeadsTo p ls (configuration_of j.filling.plain)
   pub unmoved : j.begun ≡ false → labels ls ≡ []
   pub moved : j.begun ≡ true → labels ls ≢ []
   pub last : j.last ≡ last_number 0 ls
 
 -- the same before the line l, with the name of the root that also this line gives
 pub record IsReady (p : ProgramTree) (ls : List Line) (l : Line) (j : Lines) : Type 0 where
-  pub program : program_tree j.plain ≡ p
-  pub fresh : is_spent j.plain ≡ false
+  pub program : program_tree j.filling.plain ≡ p
+  pub fresh : is_spent j.filling.plain ≡ false
   pub unended : has_end ls ≡ false
   pub from : Configuration
   pub starts : start p (root (ls ++ l ∷ [])) ≡ Some from
-  pub leads : run p from (labels ls) ≡ Some (configuration_of j.plain)
+  pub leads : run p from (labels ls) ≡ Some (configuration_of j.filling.plain)
   pub unmoved : j.begun ≡ false → labels (ls ++ l ∷ []) ≡ []
   pub moved : j.begun ≡ true → labels (ls ++ l ∷ []) ≢ []
   pub last : j.last ≡ last_number 0 ls
@@ -78,9 +78,12 @@ IsVerdictAt p ls l j (Some (V.Moving o)) = (is_end l ≡ true) × StillMoves p (
 -- what the judge writes for a line: what the line writes, or the verdict `no`
 abbrev pub judged_text : List Text → Line → Option Verdict → Text
 judged_text names l None = writes_of names l
-judged_text names l (Some V.Yes) = writes_of names l
-judged_text names l (Some (V.No number redex)) = verdict_text names (V.No number redex)
-judged_text names l (Some (V.Moving o)) = verdict_text names (V.Moving o)
+judged_text names l (Some v) = stop_text names l v
+
+-- the stop that a verdict gives
+abbrev pub stop_by : Option Verdict → Option Stop
+stop_by None = None
+stop_by (Some v) = Some (S.Judged v)
 
 -- The parsed line o of a text has a form and the right number, after the lines ls and the event `last`. It gives this
 -- verdict, or none, and the judge writes this text.
@@ -97,12 +100,36 @@ IsJudgedAt p names ls last o None text j = IsJudgedLine p names ls last o None t
 IsJudgedAt p names ls last o (Some (S.Judged v)) text j = IsJudgedLine p names ls last o (Some v) text j
 IsJudgedAt p names ls last o (Some (S.Faulty f)) text j = (fault_after last o ≡ Some f) × (text ≡ [])
 
+-- The same for a judge that fills in local transitions: the parsed line o has a form and the right number, and gives this
+-- verdict, or none.
+pub record IsFilledTold (p : ProgramTree) (names : List Text) (ls : List Line) (last : ℕ) (o : Option Told) (v : Option Verdict) (text : Text) (j : Lines) : Type 0 where
+  pub told : Told
+  pub is : o ≡ Some told
+  pub next : comes_next last told.line ≡ true
+  pub gives : IsFilledLine p names ls (numbered names told) v text j
+
+abbrev pub IsFilledAt : ProgramTree → List Text → List Line → ℕ → Option Told → Option Stop → Text → Lines → Type 0
+IsFilledAt p names ls last o None text j = IsFilledTold p names ls last o None text j
+IsFilledAt p names ls last o (Some (S.Judged v)) text j = IsFilledTold p names ls last o (Some v) text j
+IsFilledAt p names ls last o (Some (S.Faulty f)) text j = (fault_after last o ≡ Some f) × (text ≡ [])
+
+-- for a judge that fills in local transitions, or does not
+abbrev pub IsAfterBy : Bool → ProgramTree → List Line → Lines → Type 0
+IsAfterBy true p ls j = IsFilledAfter p ls j
+IsAfterBy false p ls j = IsAfter p ls j
+
+abbrev pub IsJudgedBy : Bool → ProgramTree → List Text → List Line → ℕ → Option Told → Option Stop → Text → Lines → Type 0
+IsJudgedBy true p names ls last o stop text j = IsFilledAt p names ls last o stop text j
+IsJudgedBy false p names ls last o stop text j = IsJudgedAt p names ls last o stop text j
+
 -- the judge has not run out of memory
 abbrev pub IsFresh : Judge → Type 0
-IsFresh j = is_spent j.lines.plain ≡ false
+IsFresh j = is_spent j.lines.filling.plain ≡ false
 
--- the judge has read these bytes: it has judged all whole lines, and has the bytes after the last line feed
-pub record HasRead (p : ProgramTree) (names : List Text) (s : Text) (j : Judge) : Type 0 where
+-- The judge has read these bytes: it has judged all whole lines, and has the bytes after the last line feed. It fills in
+-- local transitions, or does not.
+pub record HasRead (fills : Bool) (p : ProgramTree) (names : List Text) (s : Text) (j : Judge) : Type 0 where
+  pub mode : j.fills ≡ fills
   pub faultless : stream_fault s ≡ None
-  pub lines : IsAfter p (stream_lines names s) j.lines
+  pub lines : IsAfterBy fills p (stream_lines names s) j.lines
   pub tail : j.tail.items ≡ last_part (parts 10 s)

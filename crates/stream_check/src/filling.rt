@@ -26,7 +26,7 @@ pub struct Filling<'a> {
 
 impl<'a> Filling<'a> {
     /// Appends a line with the next number. An error means out of memory.
-    fn push(&mut self, line: &Line) -> Result<(), AllocError>
+    pub fn push(&mut self, line: &Line) -> Result<(), AllocError>
         ensures lines { OnOk result (self.new.lines ≡ self.old.lines ++ renumbered self.old.last line.now ∷ []) }
         ensures last { OnOk result (self.new.last ≡ number_after self.old.last line.now) }
         ensures plain { self.new.plain ≡ self.old.plain }
@@ -125,7 +125,7 @@ impl<'a> Filling<'a> {
     }
 
     /// Fills in local transitions of all objects if the end is quiet. An error means out of memory.
-    fn settle(&mut self, alloc: Global, end: End) -> Result<(), AllocError>
+    pub fn settle(&mut self, alloc: Global, end: End) -> Result<(), AllocError>
         ensures { OnOk result (Quiets self.old self.new end) }
     {
         if is_quiet(end) {
@@ -154,7 +154,8 @@ impl<'a> Filling<'a> {
 
     /// Fills a line. Returns the redex of the object whose transition is impossible, if one is.
     /// An error means out of memory.
-    fn follow(&mut self, line: &Line) -> Result<Option<Redex>, AllocError>
+    pub fn follow(&mut self, line: &Line) -> Result<Option<Redex>, AllocError>
+        ensures going_on { IfOk result (λ _. is_spent self.old.plain ≡ false → is_spent self.new.plain ≡ false) }
         ensures grows { IfOk result (λ r. IfNone r (Passes self.old self.new (without_local_of line.now))) }
         ensures stops { IfOk result (λ r. IfSome r (λ redex. Stops self.old self.new line.now redex)) }
     {

@@ -1,5 +1,5 @@
 //! The judge of a stream.
-ghost use Rattle.std.specs.Prelude.{◌≡◌, ◌++◌, ◌∷◌, ◌<◌, ◌^◌, List, [], length, Some, true, false, IfOk, IfNone, OnOk};
+ghost use Rattle.std.specs.Prelude.{◌≡◌, ◌++◌, ◌∷◌, ◌<◌, ◌^◌, List, [], length, Some, Bool, true, false, IfOk, IfNone, IfSome, OnOk};
 ghost use Rattle.text_scan.specs.Text.{Text};
 ghost use Rattle.run_types.specs.declared.types.Line.{Line};
 ghost use Rattle.run_types.specs.declared.types.Line.TheVariants as R;
@@ -11,10 +11,16 @@ ghost use Rattle.record_check.specs.RecordJudgement.{LeadsTo};
 ghost use Rattle.record_parser.specs.Fields.{fields};
 ghost use Rattle.record_parser.specs.Lines.{line_of};
 ghost use Rattle.run_record.specs.Records.{is_end};
-ghost use Rattle.stream_check.specs.Followed.{IsFollowed};
-ghost use Rattle.stream_check.specs.Progress.{HasRead, IsAfter, IsFresh, IsEndVerdict, IsJudgedAt, IsReady, IsVerdictAt, judged_text};
+ghost use Rattle.mesh_semantics.specs.Record.{labels_of};
+ghost use Rattle.stream_check.specs.Filled.{shows_local};
+ghost use Rattle.stream_check.specs.FilledStream.{IsFollowedBy};
+ghost use Rattle.stream_check.specs.FillProgress.{Stops, with_done};
+ghost use Rattle.stream_check.specs.FillingLines.{IsFilledAfter, IsFilledLine, IsFilledStop, IsFilledVerdict, IsReadyToFill, PassesLine};
+ghost use Rattle.stream_check.specs.Progress.{HasRead, IsAfter, IsAfterBy, IsFresh, IsEndVerdict, IsJudgedBy, IsReady, IsVerdictAt, judged_text, stop_by};
 ghost use Rattle.stream_check.specs.Stream.{comes_next, cut_off, has_end, stream_lines};
 
+use crate::fill_lines::{shows_local, with_done};
+use crate::filling::Filling;
 use crate::lines::{comes_next, is_quiet, next_number};
 use class_check::Checked;
 use pool_semantics::{Plain, agent};
@@ -22,7 +28,7 @@ use record_check::{follow_line, verdict_line};
 use record_parser::{cut, line_in};
 use record_writer::{push_end, push_written};
 use run_record::{RecordFault, label_of, numbered_in};
-use run_types::{End, Line, Names, Verdict};
+use run_types::{End, Line, List, Names, Redex, Verdict};
 use std::alloc::{AllocError, Global};
 
 /// The reason why the judge reads no further.
@@ -34,19 +40,31 @@ pub enum Stop {
     Faulty(RecordFault),
 }
 
+/// The stop that a verdict gives.
+fn stop_by(verdict: Option<Verdict>) -> Option<Stop>
+    ensures { result ≡ stop_by verdict }
+{
+    match verdict {
+        None => None,
+        Some(verdict) => Some(Stop::Judged(verdict)),
+    }
+}
+
 /// The judge of whole lines: the configuration after the lines so far, whether one of them showed a transition, and the
-/// number of the last event.
+/// number of the last event. If it fills in local transitions, a line that shows some counts as none, and `filling` has
+/// the number of the last event of the filled lines. Its list has what is filled in before one line at most.
 #[derive(Drop)]
 struct Lines<'a> {
-    plain: Plain<'a>,
+    filling: Filling<'a>,
     begun: bool,
     last: u32,
 }
 
 /// The judge of a stream. It keeps the configuration after the whole lines so far, and the bytes of a line that is not
-/// whole yet.
+/// whole yet. If it fills, it makes the local transitions of the stream itself.
 #[derive(Drop)]
 pub struct Judge<'a> {
+    fills: bool,
     lines: Lines<'a>,
     tail: Vec<u8>,
 }
@@ -98,8 +116,10 @@ fn push_verdict(
 impl<'a> Lines<'a> {
     /// Names the root by the first transition of the stream.
     fn begin(&mut self, alloc: Global, program: &Checked<'a>, line: &Line) -> Result<(), AllocError>
-        ensures fresh { OnOk result (is_spent self.old.plain ≡ false → is_spent self.new.plain ≡ false) }
+        ensures fresh { OnOk result (is_spent self.old.filling.plain ≡ false → is_spent self.new.filling.plain ≡ false) }
         ensures ready { (ls : List Line) → IsAfter (program_of program.now.program.now) ls self.old → OnOk result (IsReady (program_of program.now.program.now) ls line.now self.new) }
+        ensures ready_to_fill { (ls : List Line) → IsFilledAfter (program_of program.now.program.now) ls self.old → shows_local line.now ≡ false
+            → OnOk result (IsReadyToFill (program_of program.now.program.now) ls line.now self.new) }
     {
         if self.begun {
             return Ok(());
@@ -110,18 +130,18 @@ impl<'a> Lines<'a> {
         if steps.times == 0 {
             return Ok(());
         }
-        self.plain = Plain::make(alloc, program, agent(&steps.label))?;
+        self.filling.plain = Plain::make(alloc, program, agent(&steps.label))?;
         self.begun = true;
         Ok(())
     }
 
     /// Makes the transitions that the line of an event shows. Returns the verdict if one is impossible.
     fn step(&mut self, line: &Line) -> Result<Option<Verdict>, AllocError>
-        ensures fresh { IfOk result (λ _. is_spent self.old.plain ≡ false → is_spent self.new.plain ≡ false) }
+        ensures fresh { IfOk result (λ _. is_spent self.old.filling.plain ≡ false → is_spent self.new.filling.plain ≡ false) }
         ensures verdict { (p : ProgramTree) (ls : List Line) → IsReady p ls line.now self.old → comes_next self.old.last line.now ≡ true → is_end line.now ≡ false
             → IfOk result (λ v. IsVerdictAt p ls line.now self.new v) }
     {
-        match follow_line(&mut self.plain, line) {
+        match follow_line(&mut self.filling.plain, line) {
             Ok(None) => {
                 self.last = next_number(self.last);
                 Ok(None)
@@ -141,8 +161,8 @@ impl<'a> Lines<'a> {
         program: &Checked<'a>,
         line: &Line,
     ) -> Result<Option<Verdict>, AllocError>
-        requires { is_spent self.old.plain ≡ false }
-        ensures fresh { IfOk result (λ _. is_spent self.new.plain ≡ false) }
+        requires { is_spent self.old.filling.plain ≡ false }
+        ensures fresh { IfOk result (λ _. is_spent self.new.filling.plain ≡ false) }
         ensures verdict { (ls : List Line) → IsAfter (program_of program.now.program.now) ls self.old → comes_next self.old.last line.now ≡ true
             → IfOk result (λ v. IsVerdictAt (program_of program.now.program.now) ls line.now self.new v) }
     {
@@ -151,25 +171,121 @@ impl<'a> Lines<'a> {
                 self.begin(alloc, program, line)?;
                 self.step(line)
             }
-            Line::End(end) => Ok(Some(verdict_at(&self.plain, *end))),
+            Line::End(end) => Ok(Some(verdict_at(&self.filling.plain, *end))),
         }
     }
 
-    /// Judges a line without its line feed, and appends what the line or its verdict writes.
+    /// Makes the transitions of a line that shows no local ones, and the local ones that must come first. Returns the redex
+    /// of the object whose transition is impossible, if one is.
+    fn fill_line(&mut self, line: &Line) -> Result<Option<Redex>, AllocError>
+        ensures fresh { IfOk result (λ _. is_spent self.old.filling.plain ≡ false → is_spent self.new.filling.plain ≡ false) }
+        ensures begun { self.new.begun ≡ self.old.begun }
+        ensures last { self.new.last ≡ self.old.last }
+        ensures passes { shows_local line.now ≡ false → (self.old.begun ≡ false → labels_of line.now ≡ []) → IfOk result (λ r. IfNone r (PassesLine self.old self.new line.now)) }
+        ensures stops { IfOk result (λ r. IfSome r (λ redex. Stops self.old.filling self.new.filling line.now redex)) }
+    {
+        if !self.begun {
+            self.filling.push(line)?;
+            return Ok(None);
+        }
+        let stop = self.filling.follow(line)?;
+        Ok(stop)
+    }
+
+    /// Makes the transitions that the line of an event shows, and the local ones that must come first. Passes over local
+    /// transitions of the stream. Returns the verdict if a transition is impossible.
+    fn fill_step(
+        &mut self,
+        alloc: Global,
+        program: &Checked<'a>,
+        line: &Line,
+    ) -> Result<Option<Verdict>, AllocError>
+        ensures fresh { IfOk result (λ _. is_spent self.old.filling.plain ≡ false → is_spent self.new.filling.plain ≡ false) }
+        ensures verdict { (ls : List Line) → IsFilledAfter (program_of program.now.program.now) ls self.old → comes_next self.old.last line.now ≡ true → is_end line.now ≡ false
+            → IfOk result (λ v. IsFilledVerdict (program_of program.now.program.now) ls line.now v self.new) }
+    {
+        if shows_local(line) {
+            self.last = next_number(self.last);
+            return Ok(None);
+        }
+        self.begin(alloc, program, line)?;
+        let stop = self.fill_line(line)?;
+        self.filling.lines = List::make(alloc);
+        if let Some(redex) = stop {
+            return Ok(Some(Verdict::No {
+                number: self.filling.last,
+                redex,
+            }));
+        }
+        self.last = next_number(self.last);
+        Ok(None)
+    }
+
+    /// Makes the local transitions that must come before the end, and gives the verdict.
+    fn fill_end(&mut self, alloc: Global, end: End) -> Result<Verdict, AllocError>
+        requires { is_spent self.old.filling.plain ≡ false }
+        ensures fresh { IfOk result (λ _. is_spent self.new.filling.plain ≡ false) }
+        ensures verdict { (p : ProgramTree) (ls : List Line) → IsFilledAfter p ls self.old
+            → IfOk result (λ v. IsFilledStop p ls (R.End end) (R.End (with_done self.new.filling.last end)) v) }
+    {
+        self.filling.settle(alloc, end)?;
+        let filled = with_done(self.filling.last, end);
+        Ok(verdict_at(&self.filling.plain, filled))
+    }
+
+    /// Fills in local transitions before a line that has the right number, judges it, and appends what the line or its
+    /// verdict writes. The end line has the number of the last event of the filled lines.
+    fn judge_filled(
+        &mut self,
+        alloc: Global,
+        program: &Checked<'a>,
+        names: &Names,
+        line: &Line,
+        text: &mut Vec<u8>,
+    ) -> Result<Option<Verdict>, AllocError>
+        requires fresh { is_spent self.old.filling.plain ≡ false }
+        ensures fresh { IfOk result (λ _. is_spent self.new.filling.plain ≡ false) }
+        ensures judged { (ls : List Line) → IsFilledAfter (program_of program.now.program.now) ls self.old → comes_next self.old.last line.now ≡ true → IfOk result
+            (λ v. (more : Text) × (text.new.items ≡ text.old.items ++ more)
+            × IsFilledLine (program_of program.now.program.now) names.now ls line.now v more self.new) }
+    {
+        match line {
+            Line::Event { .. } => match self.fill_step(alloc, program, line)? {
+                None => {
+                    push_writes(text, names, line)?;
+                    Ok(None)
+                }
+                Some(verdict) => {
+                    push_verdict(alloc, text, names, line, &verdict)?;
+                    Ok(Some(verdict))
+                }
+            },
+            Line::End(end) => {
+                let verdict = self.fill_end(alloc, *end)?;
+                let filled = Line::End(with_done(self.filling.last, *end));
+                push_verdict(alloc, text, names, &filled, &verdict)?;
+                Ok(Some(verdict))
+            }
+        }
+    }
+
+    /// Judges a line without its line feed, and appends what the line or its verdict writes. Fills in local transitions
+    /// before it, if it `fills`.
     fn judge_line(
         &mut self,
         alloc: Global,
         program: &Checked<'a>,
         names: &Names,
+        fills: bool,
         line: &[u8],
         text: &mut Vec<u8>,
     ) -> Result<Option<Stop>, AllocError>
         requires few { length names.now < 2 ^ 32 }
-        requires fresh { is_spent self.old.plain ≡ false }
-        ensures fresh { IfOk result (λ _. is_spent self.new.plain ≡ false) }
-        ensures judged { (ls : List Line) → IsAfter (program_of program.now.program.now) ls self.old → IfOk result
+        requires fresh { is_spent self.old.filling.plain ≡ false }
+        ensures fresh { IfOk result (λ _. is_spent self.new.filling.plain ≡ false) }
+        ensures judged { (ls : List Line) → IsAfterBy fills (program_of program.now.program.now) ls self.old → IfOk result
             (λ stop. (more : Text) × (text.new.items ≡ text.old.items ++ more)
-            × IsJudgedAt (program_of program.now.program.now) names.now ls self.old.last (line_of (fields line.now)) stop more self.new) }
+            × IsJudgedBy fills (program_of program.now.program.now) names.now ls self.old.last (line_of (fields line.now)) stop more self.new) }
     {
         let Some(read) = line_in(line) else {
             return Ok(Some(Stop::Faulty(RecordFault::BadLine {
@@ -182,6 +298,10 @@ impl<'a> Lines<'a> {
             })));
         }
         let line = numbered_in(names, &read);
+        if fills {
+            let verdict = self.judge_filled(alloc, program, names, &line, text)?;
+            return Ok(stop_by(verdict));
+        }
         match self.follow(alloc, program, &line)? {
             None => {
                 push_writes(text, names, &line)?;
@@ -196,14 +316,20 @@ impl<'a> Lines<'a> {
 }
 
 impl<'a> Judge<'a> {
-    /// A judge that has read nothing. An error means out of memory.
-    pub fn make(alloc: Global, program: &Checked<'a>) -> Result<Judge<'a>, AllocError>
-        ensures { IfOk result (λ j. (names : List Text) → HasRead (program_of program.now.program.now) names [] j) }
+    /// A judge that has read nothing. If it `fills`, it passes over the local transitions of the stream, and fills in those
+    /// that must come first, as `fill_record` does. An error means out of memory.
+    pub fn make(alloc: Global, program: &Checked<'a>, fills: bool) -> Result<Judge<'a>, AllocError>
+        ensures { IfOk result (λ j. (names : List Text) → HasRead fills (program_of program.now.program.now) names [] j) }
     {
         let plain = Plain::make(alloc, program, 0)?;
         Ok(Judge {
+            fills,
             lines: Lines {
-                plain,
+                filling: Filling {
+                    plain,
+                    lines: List::make(alloc),
+                    last: 0,
+                },
                 begun: false,
                 last: 0,
             },
@@ -226,10 +352,10 @@ impl<'a> Judge<'a> {
     ) -> Result<Option<Stop>, AllocError>
         requires few { length names.now < 2 ^ 32 }
         requires fresh { IsFresh self.old }
-        ensures { (s : Text) → HasRead (program_of program.now.program.now) names.now s self.old → IfOk result
+        ensures { (fills : Bool) (s : Text) → HasRead fills (program_of program.now.program.now) names.now s self.old → IfOk result
             (λ stop. (more : Text) × (text.new.items ≡ text.old.items ++ more)
-            × IsFollowed (program_of program.now.program.now) names.now (s ++ piece.now) (writes_text names.now (stream_lines names.now s) ++ more) stop
-            × IfNone stop (HasRead (program_of program.now.program.now) names.now (s ++ piece.now) self.new)) }
+            × IsFollowedBy fills (program_of program.now.program.now) names.now (s ++ piece.now) (writes_text names.now (stream_lines names.now s) ++ more) stop
+            × IfNone stop (HasRead fills (program_of program.now.program.now) names.now (s ++ piece.now) self.new)) }
     {
         let mut rest = piece;
         'lines: loop {
@@ -240,7 +366,7 @@ impl<'a> Judge<'a> {
             };
             match self
                 .lines
-                .judge_line(alloc, program, names, &self.tail, text)
+                .judge_line(alloc, program, names, self.fills, &self.tail, text)
             {
                 Ok(None) => {}
                 Ok(Some(stop)) => return Ok(Some(stop)),
@@ -253,7 +379,7 @@ impl<'a> Judge<'a> {
 
     /// The fault of a stream that stops here, before its end line.
     pub fn cut_off(&self) -> RecordFault
-        ensures { (p : ProgramTree) (names : List Text) (s : Text) → HasRead p names s self.now → result ≡ cut_off (stream_lines names s) }
+        ensures { (fills : Bool) (p : ProgramTree) (names : List Text) (s : Text) → HasRead fills p names s self.now → result ≡ cut_off (stream_lines names s) }
     {
         RecordFault::BadLine {
             line: next_number(self.lines.last),

@@ -32,7 +32,7 @@ loop-reads-init g c = record {
 
 pub follow_piece-requires-clause-fresh : goal.follow_piece-requires-clause-fresh
 follow_piece-requires-clause-fresh g c =
-    let f = c.loop-reads.invariant.followed in read_is_fresh (program_of c.args.program.now.program.now) c.args.names.now f.bytes c.loop-reads.judge f.read
+    let f = c.loop-reads.invariant.followed in read_is_fresh c.args.judge.now.fills (program_of c.args.program.now.program.now) c.args.names.now f.bytes c.loop-reads.judge f.read
 
 pub returns-in-Err-clause-ends : goal.returns-in-Err-clause-ends
 returns-in-Err-clause-ends g c n e =
@@ -42,7 +42,7 @@ returns-in-Err-clause-ends g c n e =
       f.bytes,
       so_far c.args.names.now f.bytes,
       refl,
-      read_is_followed (program_of c.args.program.now.program.now) c.args.names.now f.bytes l.judge f.read,
+      read_is_followed c.args.judge.now.fills (program_of c.args.program.now.program.now) c.args.names.now f.bytes l.judge f.read,
       record { front = front_read _ (g.F.Files.rest l.files) f.bytes (sym e ∙ f.front); given = failed.2 ∙ f.given_is },
       subst (λ (k : ℕ). Rose k (g.F.Files.faults c.read.new.self)) l.invariant.faults failed.0,
       f.wrote,
@@ -62,11 +62,11 @@ returns-then-taken-eq0-clause-ends g c n e =
     let all = given ∙ ap (λ (k : ℕ). min k most_given) (no_more (length f.bytes)) in
     let k = reading g.F.Files.told g.F.Files.opens g.F.Files.given g.F.Files.live g.F.Files.faults c.args.files.now c.read.new.self in
     let w = writing g.K.Sink.written g.K.Sink.faults c.args.out.now l.out in
-    subst (λ r. StreamEnds p names n k w r) (sym c.refused.ensures) (
+    subst (λ r. StreamEnds c.args.judge.now.fills p names n k w r) (sym c.refused.ensures) (
       f.bytes,
       so_far names f.bytes,
       refl,
-      R.ended (ap Why.Record (c.cut_off.ensures p names f.bytes f.read)) (read_is_followed p names f.bytes l.judge f.read)
+      R.ended (ap Why.Record (c.cut_off.ensures c.args.judge.now.fills p names f.bytes f.read)) (read_is_followed c.args.judge.now.fills p names f.bytes l.judge f.read)
           (record { front = front_read _ (g.F.Files.rest l.files) f.bytes front; given = all })
           (record { ended = done.1; whole = whole_read _ (g.F.Files.rest l.files) f.bytes front done.0; calm = calm }),
       calm,
@@ -92,8 +92,8 @@ returns-in-Some-clause-ends g c n e =
     let count = given_then (g.F.Files.given l.files) (g.F.Files.given c.read.new.self) (length f.bytes) c.in-Ok-read.taken f.given_is h.counted in
     let given = subst (λ (b : Text). HasCome k n (f.bytes ++ b)) (sym room)
     (record { front = front_read _ (g.F.Files.rest c.read.new.self) (f.bytes ++ take c.in-Ok-read.taken c.read.new.into) more; given = count ∙ ap (λ (m : ℕ). min m most_given) (length_more f.bytes c.read.new.into c.in-Ok-read.taken fits) }) in
-    piece_ends p names n k v w f.bytes bytes c.follow_piece.new.judge refl refl f.wrote c.in-Some.end (c.in-Some.ensures f.bytes f.read)
-    (read_is_followed p names f.bytes l.judge f.read) given (front_read _ (g.F.Files.rest l.files) f.bytes (sym e ∙ f.front)) calm
+    piece_ends c.args.judge.now.fills p names n k v w f.bytes bytes c.follow_piece.new.judge refl refl f.wrote c.in-Some.end (c.in-Some.ensures c.args.judge.now.fills f.bytes f.read)
+    (read_is_followed c.args.judge.now.fills p names f.bytes l.judge f.read) given (front_read _ (g.F.Files.rest l.files) f.bytes (sym e ∙ f.front)) calm
 
 pub loop-reads-preserved : goal.loop-reads-preserved
 loop-reads-preserved g c =
@@ -111,7 +111,7 @@ loop-reads-preserved g c =
     let fits : c.in-Ok-read.taken ≤ length c.read.new.into = search rules in
     let long_more = length_more f.bytes c.read.new.into c.in-Ok-read.taken fits in
     let k = reading g.F.Files.told g.F.Files.opens g.F.Files.given g.F.Files.live g.F.Files.faults c.args.files.now c.read.new.self in
-    let goes = c.in_default-follow_piece.ensures f.bytes f.read in
+    let goes = c.in_default-follow_piece.ensures c.args.judge.now.fills f.bytes f.read in
     record {
       followed = record {
         bytes = f.bytes ++ bytes;
@@ -120,7 +120,7 @@ loop-reads-preserved g c =
             (rest_more (g.F.Files.rest c.args.files.now) (g.F.Files.rest l.files) (g.F.Files.rest c.read.new.self) f.bytes c.read.new.into c.in-Ok-read.taken f.front h.bytes h.left);
         given_is = given_then (g.F.Files.given l.files) (g.F.Files.given c.read.new.self) (length f.bytes) c.in-Ok-read.taken f.given_is h.counted ∙ ap (λ (m : ℕ). min m most_given) (long_more ∙ ap (λ (b : Text). length (f.bytes ++ b)) (sym room));
         counted = one_more (l._reads) (length f.bytes) c.in-Ok-read.taken (length (f.bytes ++ bytes)) f.counted some (long_more ∙ ap (λ (b : Text). length (f.bytes ++ b)) (sym room));
-        wrote = piece_goes p names [] k v w f.bytes bytes c.follow_piece.new.judge refl refl f.wrote goes;
+        wrote = piece_goes c.args.judge.now.fills p names [] k v w f.bytes bytes c.follow_piece.new.judge refl refl f.wrote goes;
       };
       live = h.goes_on some;
       room = search rules;
@@ -138,11 +138,11 @@ returns-clause-ends g c n e =
     let most : most_given ≤ l._reads = search rules in
     let k = reading g.F.Files.told g.F.Files.opens g.F.Files.given g.F.Files.live g.F.Files.faults c.args.files.now l.files in
     let w = writing g.K.Sink.written g.K.Sink.faults c.args.out.now l.out in
-    subst (λ r. StreamEnds p names n k w r) (sym c.refused-2.ensures) (
+    subst (λ r. StreamEnds c.args.judge.now.fills p names n k w r) (sym c.refused-2.ensures) (
       f.bytes,
       so_far names f.bytes,
       refl,
-      R.too_long refl (read_is_followed p names f.bytes l.judge f.read) (record { front = front_read _ (g.F.Files.rest l.files) f.bytes (sym e ∙ f.front); given = f.given_is })
+      R.too_long refl (read_is_followed c.args.judge.now.fills p names f.bytes l.judge f.read) (record { front = front_read _ (g.F.Files.rest l.files) f.bytes (sym e ∙ f.front); given = f.given_is })
           (all_given (g.F.Files.given l.files) l._reads (length f.bytes) f.given_is f.counted most),
       l.invariant.faults,
       f.wrote,

@@ -9,7 +9,7 @@ abbrev pub invariant-loop-reads : goal.invariant-loop-reads
 invariant-loop-reads g l =
     let files = g.F.Files in
     record {
-      followed : ReadSoFar (program_of l.program.program.now) l.names l.judge (files.rest l.fn.files) (files.rest l.files) (files.given l.files) l._reads (writing g.K.Sink.written g.K.Sink.faults l.fn.out l.out);
+      followed : ReadSoFar l.fn.judge.fills (program_of l.program.program.now) l.names l.judge (files.rest l.fn.files) (files.rest l.files) (files.given l.files) l._reads (writing g.K.Sink.written g.K.Sink.faults l.fn.out l.out);
       live : files.live l.files ≡ true;
       room : length l.piece.items ≡ 65536;
       opens : files.opens l.files ≡ files.opens l.fn.files;

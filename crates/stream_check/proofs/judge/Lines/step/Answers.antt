@@ -11,9 +11,9 @@ pub returns-in-Ok-None-clause-verdict : goal.returns-in-Ok-None-clause-verdict
 returns-in-Ok-None-clause-verdict c =
     let j = c.args.self.now in
     let l = c.args.line.now in
-    let i : Lines = record { plain = c.follow_line.new.plain; begun = j.begun; last = c.next_number-self.result } in
-    let leads : run (program_tree j.plain) (configuration_of j.plain) (labels_of l) ≡ Some (configuration_of i.plain) =
-    subst (λ o. IfNone o (run (program_tree j.plain) (configuration_of j.plain) (labels_of l) ≡ Some (configuration_of i.plain))) c.in-Ok-None.field-0-is c.in-Ok-None.ensures.leads in
+    let i : Lines = record { filling = record { plain = c.follow_line.new.plain; lines = j.filling.lines; last = j.filling.last }; begun = j.begun; last = c.next_number-self.result } in
+    let leads : run (program_tree j.filling.plain) (configuration_of j.filling.plain) (labels_of l) ≡ Some (configuration_of i.filling.plain) =
+    subst (λ o. IfNone o (run (program_tree j.filling.plain) (configuration_of j.filling.plain) (labels_of l) ≡ Some (configuration_of i.filling.plain))) c.in-Ok-None.field-0-is c.in-Ok-None.ensures.leads in
     λ p ls ready next event. (
       event,
       after_step p ls l j ready i next event c.follow_line.ensures.program c.in-Ok-None.ensures.going_on leads refl c.next_number-self.ensures,
