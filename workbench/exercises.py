@@ -13,6 +13,7 @@ import os
 import re
 import time
 
+import questions
 import runs
 
 BOUND = 1000000
